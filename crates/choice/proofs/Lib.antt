@@ -1,0 +1,3 @@
+mod Below
+mod Step
+mod End

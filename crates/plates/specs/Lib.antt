@@ -1,0 +1,3 @@
+pub mod Size
+pub mod Refusals
+pub mod Verdicts

@@ -1,0 +1,4 @@
+// The supplies of plates.
+pub mod list;
+
+pub use list::{MakersList, Row};
