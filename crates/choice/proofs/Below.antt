@@ -1,7 +1,7 @@
 -- What fits among the places below n, and what fits at one place.
 use mathlib.Core.Path.{_≡_, refl, sym, ap, subst, _∙_}
 use mathlib.Core.Logic.{_⊎_, inl, inr, ⊎-elim}
-use mathlib.Core.Bool.{Bool, true, false, cond}
+use mathlib.Core.Bool.{true, false, cond}
 use Prim.Native.Nat.{ℕ, _+_, _≤_, _<_}
 use native.Mathlib.Omega.{arith}
 use lib.Dec.{ltb}
@@ -16,7 +16,7 @@ use Rattle.plates.specs.declared.verdicts.Verdict.{Verdict}
 use Rattle.plates.specs.declared.verdicts.Verdict.the-variants.{Passes, Misses}
 use Rattle.choice.specs.declared.Offer.{Offer}
 use Rattle.choice.specs.Choosing.{Fits, NoLater}
-use Rattle.choice.specs.Offers.{below, first-passing, offered, placed}
+use Rattle.choice.specs.Offers.{below, offered, placed}
 
 some-is-not-none : {o : Option Size} {s : Size} → o ≡ None → o ≡ Some s → ⊥
 some-is-not-none n e = let z : _≡_ {A = ℕ} 0 1 = cc in omega arith
@@ -94,5 +94,5 @@ offered-at v shows k (Some p) e =
     cond-both (passes (v p Unturned)) (Some Unturned) (cond (passes (v p Turned)) (Some Turned) None) (λ t. At v shows k (placed k p t))
     (λ h. at-unturned v shows k p e h)
     (λ h.
-        cond-both (passes (v p Turned)) (Some Turned) None (λ t. At v shows k (placed k p t))
-        (λ h′. at-turned v shows k p e h h′) (λ h′. at-neither v shows k p e h h′))
+    cond-both (passes (v p Turned)) (Some Turned) None (λ t. At v shows k (placed k p t))
+    (λ h′. at-turned v shows k p e h h′) (λ h′. at-neither v shows k p e h h′))

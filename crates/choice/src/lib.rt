@@ -5,7 +5,12 @@ ghost use Rattle.std.specs.declared.result.Result.the-variants.{Ok};
 ghost use Rattle.plates.specs.Size.{size};
 ghost use Rattle.choice.specs.Choosing.{Judged, Chosen};
 ghost use Rattle.choice.specs.Offers.{answered, below, Best, first-passing, lesser-of, offered};
-use plates::{Joint, Plate, Refusal, Supply, Turning, Verdict};
+use plates::Joint;
+use plates::Plate;
+use plates::Refusal;
+use plates::Supply;
+use plates::Turning;
+use plates::Verdict;
 
 // A candidate: the place of a plate and its turning.
 pub type Candidate = (u32, Turning);
@@ -50,7 +55,12 @@ pub fn choose<J: Joint, S: Supply>(joint: &J, supply: &S) -> Result<Choice, Refu
 }
 
 // The best offer of the places up to and with this one, from the best of those before it.
-fn best_through<J: Joint, S: Supply>(joint: &J, supply: &S, place: u32, best: Option<Offer>) -> Option<Offer>
+fn best_through<J: Joint, S: Supply>(
+    joint: &J,
+    supply: &S,
+    place: u32,
+    best: Option<Offer>,
+) -> Option<Offer>
     requires lawful { ⌜ standing (now joint) ≡ Ok tt ⌝ }
     requires before { ⌜ Best (verdict (now joint)) (below place (shows (now supply))) best ⌝ }
     ensures { λ r. ⌜ Best (verdict (now (joint .entry))) (below (place + 1) (shows (now (supply .entry)))) r ⌝ }
@@ -65,7 +75,10 @@ fn offer_at<J: Joint, S: Supply>(joint: &J, supply: &S, place: u32) -> Option<Of
 {
     let plate = supply.plate(place)?;
     let turning = passing_turning(joint, plate)?;
-    Some(Offer { candidate: (place, turning), area: plate.area() })
+    Some(Offer {
+        candidate: (place, turning),
+        area: plate.area(),
+    })
 }
 
 // The first turning in which the plate passes: unturned is tried first.
@@ -98,7 +111,11 @@ fn answer(best: Option<Offer>, asked: u32) -> Result<Choice, Refusal>
     ensures { λ r. ⌜ r ≡ answered best asked ⌝ }
 {
     match best {
-        Some(offer) => Ok(Choice { candidate: offer.candidate, area: offer.area, asked }),
+        Some(offer) => Ok(Choice {
+            candidate: offer.candidate,
+            area: offer.area,
+            asked,
+        }),
         None => Err(Refusal::NothingFits),
     }
 }

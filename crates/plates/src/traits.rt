@@ -2,7 +2,7 @@
 // implementation means, and generic code is proved once against that meaning.
 ghost use denote.Ref.{now};
 ghost use mathlib.Core.Path.{_≡_};
-ghost use Prim.Native.Nat.{ℕ, _^_, _<_, _≤_};
+ghost use Prim.Native.Nat.{ℕ, _≤_};
 ghost use Rattle.std.specs.Options.{mapped};
 ghost use Rattle.std.specs.declared.option.Option.{Option};
 ghost use Rattle.std.specs.declared.option.Option.the-variants.{None};
@@ -24,12 +24,10 @@ pub trait Supply {
 
     ghost shows: { Self → ℕ → Option Size };
 
-    law few: { (s : Self) → places s < 2 ^ 32 };
-
-    law beyond: { (s : Self) (k : ℕ) → places s ≤ k → shows s k ≡ None };
-
+    // How many places there are: from that number on nothing is shown.
     fn places(&self) -> u32
-        ensures { λ r. ⌜ r ≡ places (now (self .entry)) ⌝ };
+        ensures value { λ r. ⌜ r ≡ places (now (self .entry)) ⌝ }
+        ensures beyond { λ _. ⌜ ((k : ℕ) → places (now (self .entry)) ≤ k → shows (now (self .entry)) k ≡ None) ⌝ };
 
     fn plate(&self, place: u32) -> Option<Plate>
         ensures { λ r. ⌜ mapped size r ≡ shows (now (self .entry)) place ⌝ };
@@ -42,10 +40,9 @@ pub trait Joint {
 
     ghost verdict: { Self → Size → Turning → Verdict };
 
-    law grounded: { (j : Self) → Grounded (standing j) };
-
     fn standing(&self) -> Result<(), Refusal>
-        ensures { λ r. ⌜ r ≡ standing (now (self .entry)) ⌝ };
+        ensures value { λ r. ⌜ r ≡ standing (now (self .entry)) ⌝ }
+        ensures grounded { λ _. ⌜ Grounded (standing (now (self .entry))) ⌝ };
 
     fn verdict(&self, plate: Plate, turning: Turning) -> Verdict
         requires { ⌜ standing (now self) ≡ Ok tt ⌝ }

@@ -34,7 +34,7 @@ pub enum Clause {
 #[derive(Clone, Copy, PartialEq, Eq, Debug)]
 pub enum Verdict {
     Passes,
-    Misses { clause: Clause, member: u32 },
+    Misses { clause: Clause, member: usize },
 }
 
 impl Clause {
@@ -68,7 +68,7 @@ impl Verdict {
     }
 
     // The member that the verdict names: 0 for 'passes'.
-    pub fn member(self) -> u32
+    pub fn member(self) -> usize
         ensures { λ r. ⌜ r ≡ member self ⌝ }
     {
         match self {

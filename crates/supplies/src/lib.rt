@@ -1,4 +1,5 @@
 // The supplies of plates.
 pub mod list;
 
-pub use list::{MakersList, Row};
+pub use list::MakersList;
+pub use list::Row;

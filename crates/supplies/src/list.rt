@@ -2,7 +2,8 @@
 ghost use denote.Ref.{now};
 ghost use mathlib.Core.Path.{_≡_};
 ghost use Rattle.supplies.specs.Rows.{list-places, list-shows};
-use plates::{Plate, Supply};
+use plates::Plate;
+use plates::Supply;
 
 // A row of a maker's list: plain numbers, of which there may be no plate.
 #[derive(Clone, Copy)]

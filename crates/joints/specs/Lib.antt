@@ -1,0 +1,4 @@
+pub mod Scan
+pub mod Grounds
+pub mod Verdict
+pub mod Web

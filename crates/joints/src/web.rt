@@ -1,0 +1,66 @@
+// Web joints.
+ghost use denote.Ref.{now};
+ghost use mathlib.Core.Path.{_≡_};
+ghost use Rattle.std.specs.declared.result.Result.the-variants.{Ok};
+ghost use Rattle.plates.specs.Size.{Size, size};
+ghost use Rattle.plates.specs.declared.turnings.Turning.{Turning};
+ghost use Rattle.joints.specs.Verdict.{Judges};
+ghost use Rattle.joints.specs.Web.{web-standing, Web-stands, web-checks, web-members, web-verdict};
+use super::grounds::{cards_stand, fields_stand, members_stand, own, read_cards, span_stands, truss_stands};
+use super::sheets::{Sheet, WebJoint};
+use super::trying::tried;
+use plates::{Joint, Plate, Refusal, Turning, Verdict};
+use rules::{Card, Member};
+
+// Off the heel the moment factor is 100.
+const FACTOR: u32 = 100;
+
+impl<'a> WebJoint<'a> {
+    // The joint of a sheet over the caller's members and cards. Its standing is lawful or names the
+    // first fault of the first ground that is given; its verdict on a plate is 'passes' where
+    // every clause is met, else the first clause missed and its first member.
+    pub fn new(sheet: Sheet, members: &'a [Member], cards: &'a [Card]) -> Self
+        ensures sheet { λ r. ⌜ r .sheet ≡ sheet ⌝ }
+        ensures members { λ r. ⌜ now (r .members) ≡ now (members .entry) ⌝ }
+        ensures cards { λ r. ⌜ now (r .cards) ≡ now (cards .entry) ⌝ }
+        ensures stands { λ r. ⌜ Web-stands r (web-standing r) ⌝ }
+        ensures judges { λ r. ⌜ ((s : Size) (t : Turning) → Judges (web-checks r s t) (web-members r) (web-verdict r s t)) ⌝ }
+    {
+        WebJoint { sheet, members, cards }
+    }
+
+    // The grounds in their order.
+    fn grounds(&self) -> Result<(), Refusal>
+        ensures { λ r. ⌜ r ≡ web-standing (now (self .entry)) ⌝ }
+    {
+        truss_stands(&self.sheet)?;
+        span_stands(&self.sheet, self.members.len())?;
+        let own = own(&self.sheet, self.members);
+        members_stand(self.sheet.first, own)?;
+        cards_stand(read_cards(self.cards))?;
+        fields_stand(self.sheet.first, own)
+    }
+
+    // The clauses in their order.
+    fn clauses(&self, plate: Plate, turning: Turning) -> Verdict
+        requires { ⌜ web-standing (now self) ≡ Ok tt ⌝ }
+        ensures { λ r. ⌜ r ≡ web-verdict (now (self .entry)) (size plate) turning ⌝ }
+    {
+        let own = own(&self.sheet, self.members);
+        tried(&self.sheet.conditions, FACTOR, read_cards(self.cards), own, plate, turning)
+    }
+}
+
+pub impl Joint for WebJoint<'_> as WebJointJoint {
+    ghost standing = { web-standing };
+
+    ghost verdict = { web-verdict };
+
+    fn standing(&self) -> Result<(), Refusal> {
+        self.grounds()
+    }
+
+    fn verdict(&self, plate: Plate, turning: Turning) -> Verdict {
+        self.clauses(plate, turning)
+    }
+}
