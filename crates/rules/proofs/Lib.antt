@@ -1,2 +1,3 @@
 pub mod Bounds
+pub mod Floors
 pub mod Table

@@ -7,6 +7,7 @@ use Rattle.plates.specs.declared.turnings.Turning.{Turning}
 use Rattle.plates.specs.declared.turnings.Turning.the-variants.{Unturned, Turned}
 use Rattle.plates.specs.declared.verdicts.Clause.{Clause}
 use Rattle.plates.specs.declared.verdicts.Clause.the-variants as clause
+use Rattle.rules.specs.declared.splices.Section.{Section}
 use Rattle.rules.specs.declared.terms.Area.{Area}
 use Rattle.rules.specs.declared.terms.Area.the-variants.{Net, Gross}
 use Rattle.rules.specs.declared.terms.Axis.{Axis}
@@ -134,6 +135,25 @@ holds-slip s ns ksf area = leb s (ns * ksf * area / 100000)
 
 abbrev pub slips : Laid → Member → Bool
 slips l m = holds-slip (m .specified) (lateral (l .card .slip) (m .theta) (to-axis (l .turning) (m .rho))) (service-factor (l .conditions .service)) (bearing l m)
+
+-- J: the plate's extent across the grain is at least 65 percent of the depth
+abbrev pub extends : Laid → Member → Bool
+extends l m = leb (65 * m .depth) (100 * extent (l .plate) (l .turning) (crosswise (m .grain)))
+
+-- T: the tension in a member
+abbrev pub pull : Force → ℕ → ℕ
+pull Tension n = n
+pull Compression n = 0
+
+-- the section of a splice through a member, with the wood value c
+abbrev pub section : Laid → Member → ℕ → Section
+section l m c = record {
+  depth = m .depth;
+  wood = c;
+  side = full l m (crosswise (m .grain));
+  steel = tensile (l .card) (to-axis (l .turning) (m .rho));
+  pull = pull (m .force) (m .normal);
+}
 
 -- whether the member meets the clause; the clauses of the joint as a whole ask nothing of one member
 unfoldable pub meets : Clause → Laid → Member → Bool

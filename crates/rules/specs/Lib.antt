@@ -3,5 +3,8 @@ pub mod Teeth
 pub mod Steel
 pub mod Sides
 pub mod Bites
+pub mod Heel
 pub mod Ranges
+pub mod Splice
 pub mod Clauses
+pub mod Worked

@@ -3,6 +3,7 @@ use Prim.Native.Nat.{ℕ, _≤_, _<_}
 use lib.IntN.{pos, negsuc}
 use lib.Signed.{_≤ℤ_}
 use lib.ListN.{getD}
+use Rattle.rules.specs.declared.splices.Section.{Section}
 use Rattle.rules.specs.declared.terms.Card.{Card}
 use Rattle.rules.specs.declared.terms.Lateral.{Lateral}
 use Rattle.rules.specs.declared.terms.Member.{Member}
@@ -49,3 +50,11 @@ pub record Member-within (m : Member) : Type 0 where
 pub record Trial-within (t : Trial) : Type 0 where
   pub factor : t .factor ≤ 100
   pub card : Card-within (t .card)
+
+pub record Section-within (s : Section) : Type 0 where
+  pub depth : s .depth ≤ 286
+  pub wood-low : 1 ≤ s .wood
+  pub wood-high : s .wood ≤ 400
+  pub side : s .side ≤ 1000
+  pub steel : s .steel ≤ 20000
+  pub pull : s .pull ≤ 200000

@@ -2,10 +2,11 @@
 ghost use mathlib.Core.Path.{_≡_};
 ghost use Prim.Native.Nat.{_*_, _≤_};
 ghost use Rattle.plates.specs.Size.{size};
-ghost use Rattle.rules.specs.Clauses.{laid, allowed, short-teeth, to-axis, to-shear, crosswise, full, counted, bearing, bites, per-mm, holds-cross, crosses, tooth-resistance, capacity, normal-weight, holds-grip, grips, steel, pulls, shears, holds-slip, slips, meets};
-ghost use Rattle.rules.specs.Ranges.{Card-within, Member-within, Trial-within};
+ghost use Rattle.rules.specs.Clauses.{laid, allowed, short-teeth, to-axis, to-shear, crosswise, full, counted, bearing, bites, per-mm, holds-cross, crosses, tooth-resistance, capacity, normal-weight, holds-grip, grips, steel, pulls, shears, holds-slip, slips, extends, pull, section, meets};
+ghost use Rattle.rules.specs.Ranges.{Card-within, Member-within, Section-within, Trial-within};
 use super::bites::bite;
 use super::sides::{along, extent, full_side, net_side};
+use super::splices::Section;
 use super::steel::{shearing, tensile};
 use super::teeth::{cut_all, factored, lateral, service_factor};
 use super::terms::{Area, Axis, Card, Force, Member, Species, Trial, Turnings};
@@ -123,7 +124,7 @@ fn per_mm(species: Species) -> u32
     }
 }
 
-fn holds_cross(species: Species, load: u32, depth: u32, side: u32) -> bool
+pub(crate) fn holds_cross(species: Species, load: u32, depth: u32, side: u32) -> bool
     requires load { ⌜ load ≤ 200000 ⌝ }
     requires depth { ⌜ depth ≤ 286 ⌝ }
     requires side { ⌜ side ≤ 1000 ⌝ }
@@ -154,7 +155,7 @@ fn tooth_resistance(trial: &Trial, member: &Member) -> u32
 }
 
 // What the teeth hold over that area, in N.
-fn capacity(resistance: u32, area: u32) -> u32
+pub(crate) fn capacity(resistance: u32, area: u32) -> u32
     requires resistance { ⌜ resistance ≤ 20700 ⌝ }
     requires area { ⌜ area ≤ 1000000 ⌝ }
     ensures value { λ r. ⌜ r ≡ capacity resistance area ⌝ }
@@ -181,7 +182,7 @@ fn square(x: u32) -> u64
     x as u64 * x as u64
 }
 
-fn holds_grip(force: Force, parallel: u32, normal: u32, capacity: u32) -> bool
+pub(crate) fn holds_grip(force: Force, parallel: u32, normal: u32, capacity: u32) -> bool
     requires parallel { ⌜ parallel ≤ 200000 ⌝ }
     requires normal { ⌜ normal ≤ 200000 ⌝ }
     requires capacity { ⌜ capacity ≤ 20700000 ⌝ }
@@ -253,6 +254,38 @@ fn slips(trial: &Trial, member: &Member) -> bool
     let ns = lateral(trial.card.slip, member.theta, to_axis(trial.turning, member.rho));
     let service = service_factor(trial.conditions.service);
     holds_slip(member.specified, ns, service, bearing(trial, member))
+}
+
+// J: the plate's extent across the grain is at least 65 percent of the depth.
+pub fn extends(trial: &Trial, member: &Member) -> bool
+    requires { ⌜ Member-within (now member) ⌝ }
+    ensures { λ r. ⌜ r ≡ extends (laid (now (trial .entry))) (now (member .entry)) ⌝ }
+{
+    65 * member.depth <= 100 * extent(&trial.plate, trial.turning, crosswise(member.grain))
+}
+
+// The tension in a member.
+fn pull(force: Force, normal: u32) -> u32
+    ensures { λ r. ⌜ r ≡ pull force normal ⌝ }
+{
+    match force {
+        Force::Tension => normal,
+        Force::Compression => 0,
+    }
+}
+
+// The section of a splice through a member.
+pub fn section(trial: &Trial, member: &Member, wood: u32) -> Section
+    requires trial { ⌜ Trial-within (now trial) ⌝ }
+    requires member { ⌜ Member-within (now member) ⌝ }
+    requires wood { ⌜ 1 ≤ wood ⌝ ∗ ⌜ wood ≤ 400 ⌝ }
+    ensures value { λ r. ⌜ r ≡ section (laid (now (trial .entry))) (now (member .entry)) wood ⌝ }
+    ensures bounds { λ r. ⌜ Section-within r ⌝ }
+{
+    let side = full(trial, member, crosswise(member.grain));
+    let steel = tensile(&trial.card, to_axis(trial.turning, member.rho));
+    let pull = pull(member.force, member.normal);
+    Section { depth: member.depth, wood, side, steel, pull }
 }
 
 // Whether the member meets the clause; the clauses of the joint as a whole ask nothing of one member.

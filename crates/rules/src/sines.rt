@@ -1,7 +1,7 @@
 // 10,000 × sin² of a whole number of degrees, to the nearest whole number.
 ghost use mathlib.Core.Path.{_≡_};
 ghost use Prim.Native.Nat.{_≤_};
-ghost use Rattle.rules.specs.Sines.{S, Squared-sines};
+ghost use Rattle.rules.specs.Sines.{S, squares, Squared-sines};
 
 const SQUARES: [u32; 91] = [
     0, 3, 12, 27, 49, 76, 109, 149, 194, 245,
@@ -16,11 +16,18 @@ const SQUARES: [u32; 91] = [
     10000,
 ];
 
+// The whole table, from 0 to 90 degrees, and the laws that it keeps.
+pub fn squares() -> [u32; 91]
+    ensures value { λ r. ⌜ r ≡ squares ⌝ }
+    ensures laws { λ _. ⌜ Squared-sines ⌝ }
+{
+    SQUARES
+}
+
 pub fn square_sine(angle: u32) -> u32
     requires { ⌜ angle ≤ 90 ⌝ }
     ensures value { λ r. ⌜ r ≡ S angle ⌝ }
     ensures bound { λ r. ⌜ r ≤ 10000 ⌝ }
-    ensures laws { λ r. ⌜ Squared-sines ⌝ }
 {
     SQUARES[angle as usize]
 }
