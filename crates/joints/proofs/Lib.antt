@@ -1,5 +1,5 @@
+pub mod Firsts
 pub mod Scanning
 pub mod Standing
 pub mod Verdicts
-pub mod Webs
 pub mod Within

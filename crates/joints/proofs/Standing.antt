@@ -1,6 +1,6 @@
 -- What a standing means.
 use mathlib.Core.Path.{_≡_, refl, subst}
-use mathlib.Core.Bool.{Bool, true, false}
+use mathlib.Core.Bool.{Bool, true, false, cond}
 use mathlib.Core.List.{List}
 use Prim.Native.Nat.{ℕ, _+_, _≤_}
 use native.Mathlib.Omega.{arith}
@@ -10,7 +10,7 @@ use Rattle.std.specs.declared.option.Option.the-variants.{Some, None}
 use Rattle.rules.specs.declared.terms.Card.{Card}
 use Rattle.rules.specs.declared.terms.Member.{Member}
 use Rattle.joints.specs.Scan.{first-failing}
-use Rattle.joints.specs.Grounds.{member-ranged, card-ranged, drawn, unless-at, stands, Stands}
+use Rattle.joints.specs.Grounds.{member-ranged, card-ranged, drawn, unless-at, numbers-stand, Drawing, stands, Stands}
 use Rattle.plates.specs.Refusals.{Grounded}
 use Rattle.plates.specs.declared.refusals.Refusal.{Refusal}
 use Rattle.plates.specs.declared.refusals.Refusal.the-variants.{SheetNumber, MemberSpan, MemberNumber, CardNumber, EmptyField, NoPlace, BadReceipt, BookFull, NothingFits, OtherStamp, NoneOut}
@@ -22,53 +22,67 @@ use Rattle.std.proofs.shelf.Lists.{length-take}
 use Rattle.std.proofs.shelf.Ways.{tells}
 use Rattle.rules.specs.Ranges.{Card-within, Member-within}
 use Rattle.joints.specs.declared.sheets.Sheet.{Sheet}
-use Rattle.joints.specs.Grounds.{spanned, own}
+use Rattle.joints.specs.Grounds.{spanned, paired, own}
 use Rattle.joints.proofs.Scanning.{Means, means}
 use Rattle.joints.proofs.Within.{member-within, card-within}
 
 -- by what each scan found
-found : (first : ℕ) (ms : List Member) (cs : List Card) (a b c : Option ℕ) → Means member-ranged first ms a → Means card-ranged 0 cs b → Means drawn first ms c → Stands true true first ms cs (unless-at a MemberNumber (unless-at b CardNumber (unless-at c EmptyField (Ok tt))))
-found first ms cs (Some k) b c h i j = (refl, refl, h)
-found first ms cs None (Some k) c h i j = (refl, refl, h, i)
-found first ms cs None None (Some k) h i j = (refl, refl, h, i, j)
-found first ms cs None None None h i j = (refl, refl, h, i, j)
+found : (d : Drawing) (a b c : Option ℕ) → d .numbers ≡ true → d .span ≡ true → Means member-ranged (d .first) (d .members) a → Means card-ranged 0 (d .cards) b → Means drawn (d .first) (d .members) c → Stands d (unless-at a MemberNumber (unless-at b CardNumber (unless-at c EmptyField (Ok tt))))
+found d (Some k) b c n s h i j = (n, s, h)
+found d None (Some k) c n s h i j = (n, s, h, i)
+found d None None (Some k) n s h i j = (n, s, h, i, j)
+found d None None None n s h i j = (n, s, h, i, j)
 
-pub stands-so : (numbers span : Bool) (first : ℕ) (ms : List Member) (cs : List Card) → Stands numbers span first ms cs (stands numbers span first ms cs)
-stands-so false span first ms cs = refl
-stands-so true false first ms cs = (refl, refl)
-stands-so true true first ms cs = found first ms cs _ _ _ (means member-ranged first ms) (means card-ranged 0 cs) (means drawn first ms)
+by-span : (d : Drawing) (b : Bool) → d .numbers ≡ true → d .span ≡ b → Stands d (cond b (numbers-stand (d .first) (d .members) (d .cards)) (Err MemberSpan))
+by-span d false n s = (n, s)
+by-span d true n s = found d _ _ _ n s (means member-ranged (d .first) (d .members)) (means card-ranged 0 (d .cards)) (means drawn (d .first) (d .members))
+
+by-numbers : (d : Drawing) (b : Bool) → d .numbers ≡ b → Stands d (cond b (cond (d .span) (numbers-stand (d .first) (d .members) (d .cards)) (Err MemberSpan)) (Err SheetNumber))
+by-numbers d false n = n
+by-numbers d true n = by-span d (d .span) n refl
+
+pub stands-so : (d : Drawing) → Stands d (stands d)
+stands-so d = by-numbers d (d .numbers) refl
 
 -- what a lawful joint gives to its clauses
-pub record Lawful (span : Bool) (ms : List Member) (cs : List Card) : Type 0 where
-  pub right : span ≡ true
-  pub members : All Member-within ms
-  pub cards : All Card-within cs
+pub record Lawful (d : Drawing) : Type 0 where
+  pub numbered : d .numbers ≡ true
+  pub spans : d .span ≡ true
+  pub ranged : All Member-within (d .members)
+  pub carded : All Card-within (d .cards)
 
-pub lawful : (numbers span : Bool) (first : ℕ) (ms : List Member) (cs : List Card) → stands numbers span first ms cs ≡ Ok tt → Lawful span ms cs
-lawful numbers span first ms cs e =
-    let h : Stands numbers span first ms cs (Ok tt) = subst (Stands numbers span first ms cs) e (stands-so numbers span first ms cs) in
+pub lawful : (d : Drawing) → stands d ≡ Ok tt → Lawful d
+lawful d e =
+    let h : Stands d (Ok tt) = subst (Stands d) e (stands-so d) in
     record {
-      right = h .1;
-      members = all-weaker (λ m. member-ranged m ≡ true) Member-within member-within ms (h .2);
-      cards = all-weaker (λ c. card-ranged c ≡ true) Card-within card-within cs (h .3);
+      numbered = h .0;
+      spans = h .1;
+      ranged = all-weaker (λ m. member-ranged m ≡ true) Member-within member-within (d .members) (h .2);
+      carded = all-weaker (λ c. card-ranged c ≡ true) Card-within card-within (d .cards) (h .3);
     }
 
-pub spans : (s : Sheet) (n : ℕ) → spanned s n ≡ true → s .first + s .count ≤ n
-spans s n t = grind (arith, tells)
+few : (s : Sheet) (ms : List Member) → s .count ≤ 6 → length (own s ms) ≤ 6
+few s ms h = omega (arith, length-take (s .count) (drop (s .first) ms))
 
-pub few : (s : Sheet) (n : ℕ) (ms : List Member) → spanned s n ≡ true → length (own s ms) ≤ 6
-few s n ms t = let h : s .count ≤ 6 = grind (arith, tells) in omega (arith, length-take (s .count) (drop (s .first) ms))
+pub few-spanned : (s : Sheet) (n : ℕ) (ms : List Member) → spanned s n ≡ true → length (own s ms) ≤ 6
+few-spanned s n ms t = let h : s .count ≤ 6 = grind (arith, tells) in few s ms h
 
-pub grounded : (numbers span : Bool) (first : ℕ) (ms : List Member) (cs : List Card) (r : Result (Unit {0}) Refusal) → Stands numbers span first ms cs r → Grounded r
-grounded numbers span first ms cs (Ok u) h = tt
-grounded numbers span first ms cs (Err SheetNumber) h = omega arith
-grounded numbers span first ms cs (Err MemberSpan) h = omega arith
-grounded numbers span first ms cs (Err (MemberNumber k)) h = omega arith
-grounded numbers span first ms cs (Err (CardNumber k)) h = omega arith
-grounded numbers span first ms cs (Err (EmptyField k)) h = omega arith
-grounded numbers span first ms cs (Err (NoPlace k)) h = absurd h
-grounded numbers span first ms cs (Err (BadReceipt k)) h = absurd h
-grounded numbers span first ms cs (Err BookFull) h = absurd h
-grounded numbers span first ms cs (Err NothingFits) h = absurd h
-grounded numbers span first ms cs (Err OtherStamp) h = absurd h
-grounded numbers span first ms cs (Err NoneOut) h = absurd h
+pub few-paired : (s : Sheet) (n : ℕ) (ms : List Member) → paired s n ≡ true → length (own s ms) ≤ 6
+few-paired s n ms t = let h : s .count ≤ 6 = grind (arith, tells) in few s ms h
+
+numbered-to-4 : (d : Drawing) (r : Result (Unit {0}) Refusal) → Stands d r → Grounded r
+numbered-to-4 d (Ok u) h = tt
+numbered-to-4 d (Err SheetNumber) h = omega arith
+numbered-to-4 d (Err MemberSpan) h = omega arith
+numbered-to-4 d (Err (MemberNumber k)) h = omega arith
+numbered-to-4 d (Err (CardNumber k)) h = omega arith
+numbered-to-4 d (Err (EmptyField k)) h = omega arith
+numbered-to-4 d (Err (NoPlace k)) h = absurd h
+numbered-to-4 d (Err (BadReceipt k)) h = absurd h
+numbered-to-4 d (Err BookFull) h = absurd h
+numbered-to-4 d (Err NothingFits) h = absurd h
+numbered-to-4 d (Err OtherStamp) h = absurd h
+numbered-to-4 d (Err NoneOut) h = absurd h
+
+pub grounded : (d : Drawing) → Grounded (stands d)
+grounded d = numbered-to-4 d (stands d) (stands-so d)

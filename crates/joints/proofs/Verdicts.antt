@@ -8,10 +8,11 @@ use lib.ListN.{length, getD, drop}
 use Rattle.std.specs.declared.option.Option.{Option}
 use Rattle.std.specs.declared.option.Option.the-variants.{Some, None}
 use Rattle.rules.specs.declared.terms.Card.{Card}
+use Rattle.plates.specs.Verdicts.{passes}
 use Rattle.plates.specs.declared.verdicts.Clause.{Clause}
 use Rattle.plates.specs.declared.verdicts.Verdict.{Verdict}
 use Rattle.plates.specs.declared.verdicts.Verdict.the-variants.{Passes, Misses}
-use Rattle.rules.specs.Clauses.{Laid, meets}
+use Rattle.clauses.specs.Clauses.{Laid, meets}
 use Rattle.rules.specs.declared.terms.Member.{Member}
 use Rattle.std.proofs.shelf.Lists.{at-drop-more, at-drop-all}
 use Rattle.joints.specs.Scan.{first-failing}
@@ -19,7 +20,7 @@ use Rattle.std.specs.shelf.Lists.{All}
 use mathlib.Core.Bool.{Bool, true, false, cond}
 use Rattle.joints.specs.Verdict.{Check, whole, each, Met, Missed, Misses-first, Judges, missed-at, first-missed}
 use Rattle.joints.proofs.Scanning.{Means, means}
-use Rattle.joints.specs.Web.{card-of, each-of}
+use Rattle.joints.specs.Checks.{card-of, each-of}
 
 pub card-there : (cs : List Card) (k : ℕ) (d : Card) → k < length cs → card-of cs k ≡ Some (getD cs k d)
 card-there [] k d h = absurd (not-suc-le-zero h)
@@ -75,3 +76,36 @@ pub judges : (ks : List Check) (ms : List Member) → Judges ks ms (first-missed
 judges [] ms = tt
 judges (whole c b ∷ ks) ms = by-whole ms c b ks _ (judges ks ms)
 judges (each c p ∷ ks) ms = by-each ms c p ks _ (judges ks ms) _ (means p 1 ms)
+
+-- the verdict of checks that go on: a clause missed stays, and 'passes' leaves it to the others
+abbrev after : Verdict → Verdict → Verdict
+after Passes v = v
+after (Misses c k) v = Misses c k
+
+after-cond : (b : Bool) (v w : Verdict) (c : Clause) → cond b (after v w) (Misses c 0) ≡ after (cond b v (Misses c 0)) w
+after-cond true v w c = refl
+after-cond false v w c = refl
+
+after-missed : (r : Option ℕ) (v w : Verdict) (c : Clause) → missed-at c r (after v w) ≡ after (missed-at c r v) w
+after-missed None v w c = refl
+after-missed (Some k) v w c = refl
+
+goes-on : (ks ls : List Check) (ms : List Member) → first-missed (ks ++ ls) ms ≡ after (first-missed ks ms) (first-missed ls ms)
+goes-on [] ls ms = refl
+goes-on (whole c b ∷ ks) ls ms = ap (λ v. cond b v (Misses c 0)) (goes-on ks ls ms) ∙ after-cond b _ _ c
+goes-on (each c p ∷ ks) ls ms = ap (missed-at c (first-failing p 1 ms)) (goes-on ks ls ms) ∙ after-missed (first-failing p 1 ms) _ _ c
+
+stays-missed : (v w : Verdict) → passes v ≡ false → after v w ≡ v
+stays-missed Passes w e = let z : _≡_ {A = ℕ} 0 1 = cc in absurd (omega arith)
+stays-missed (Misses c k) w e = refl
+
+leaves-it : (v w : Verdict) → passes v ≡ true → after v w ≡ w
+leaves-it Passes w e = refl
+leaves-it (Misses c k) w e = let z : _≡_ {A = ℕ} 0 1 = cc in absurd (omega arith)
+
+module _ (ks ls : List Check) (ms : List Member) where
+  pub missed-before : passes (first-missed ks ms) ≡ false → first-missed (ks ++ ls) ms ≡ first-missed ks ms
+  missed-before e = goes-on ks ls ms ∙ stays-missed _ _ e
+
+  pub passed-before : passes (first-missed ks ms) ≡ true → first-missed (ks ++ ls) ms ≡ first-missed ls ms
+  passed-before e = goes-on ks ls ms ∙ leaves-it _ _ e

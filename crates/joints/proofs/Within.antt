@@ -21,7 +21,7 @@ use Rattle.rules.specs.declared.terms.Member.{Member}
 use Rattle.rules.specs.declared.terms.Span.{Span}
 use Rattle.rules.specs.Ranges.{Lateral-within, Card-within, Span-within, Member-within}
 use Rattle.joints.specs.Grounds.{within, loads-ranged, angles-ranged, depth-listed, span-ranged, member-ranged, lateral-ranged, shear-ranged, card-ranged}
-use Rattle.joints.specs.Web.{card-of}
+use Rattle.joints.specs.Checks.{card-of}
 
 up-to : (low high n : ℕ) → within low high n ≡ true → n ≤ high
 up-to low high n t = grind (arith, tells)

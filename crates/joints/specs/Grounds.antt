@@ -28,9 +28,17 @@ within low high n = leb low n && leb n high
 abbrev pub truss-ranged : Sheet → Bool
 truss-ranged s = within 1 30500 (s .conditions .truss)
 
--- ground 2: the members lie in the caller's list and number one to six
+-- ground 2: the members lie in the caller's list, of that length
+abbrev pub listed : Sheet → ℕ → Bool
+listed s list = leb (s .first + s .count) list
+
+-- and they number one to six
 abbrev pub spanned : Sheet → ℕ → Bool
-spanned s listed = within 1 6 (s .count) && leb (s .first + s .count) listed
+spanned s list = within 1 6 (s .count) && listed s list
+
+-- or, in a splice, two
+abbrev pub paired : Sheet → ℕ → Bool
+paired s list = eqb (s .count) 2 && listed s list
 
 -- the sheet's own members
 abbrev pub own : Sheet → List Member → List Member
@@ -89,22 +97,39 @@ numbers-stand first ms cs =
     (unless-at (first-failing card-ranged 0 cs) CardNumber
     (unless-at (first-failing drawn first ms) EmptyField (Ok tt)))
 
--- all grounds of a sheet whose own numbers are right, or not, and whose span is right, or not
-abbrev pub stands : Bool → Bool → ℕ → List Member → List Card → Result (Unit {0}) Refusal
-stands numbers span first ms cs = cond numbers (cond span (numbers-stand first ms cs) (Err MemberSpan)) (Err SheetNumber)
+-- what the grounds look at: whether the sheet's own numbers are right and its span is, where its
+-- members begin in the caller's list, and the members and cards that are read
+pub record Drawing : Type 0 where
+  pub numbers : Bool
+  pub span : Bool
+  pub first : ℕ
+  pub members : List Member
+  pub cards : List Card
+
+abbrev pub stands : Drawing → Result (Unit {0}) Refusal
+stands d = cond (d .numbers) (cond (d .span) (numbers-stand (d .first) (d .members) (d .cards)) (Err MemberSpan)) (Err SheetNumber)
+
+abbrev pub Members-ranged : Drawing → Type 0
+Members-ranged d = All (λ m. member-ranged m ≡ true) (d .members)
+
+abbrev pub Cards-ranged : Drawing → Type 0
+Cards-ranged d = All (λ c. card-ranged c ≡ true) (d .cards)
+
+abbrev pub Fields-drawn : Drawing → Type 0
+Fields-drawn d = All (λ m. drawn m ≡ true) (d .members)
 
 -- what a standing means: each refusal names the first fault of its ground, and no ground before it
 -- is given; lawful is what gives none
-abbrev pub Stands : Bool → Bool → ℕ → List Member → List Card → Result (Unit {0}) Refusal → Type 0
-Stands numbers span first ms cs (Ok u) = (numbers ≡ true) × (span ≡ true) × All (λ m. member-ranged m ≡ true) ms × All (λ c. card-ranged c ≡ true) cs × All (λ m. drawn m ≡ true) ms
-Stands numbers span first ms cs (Err SheetNumber) = numbers ≡ false
-Stands numbers span first ms cs (Err MemberSpan) = (numbers ≡ true) × (span ≡ false)
-Stands numbers span first ms cs (Err (MemberNumber k)) = (numbers ≡ true) × (span ≡ true) × First-failing member-ranged first ms k
-Stands numbers span first ms cs (Err (CardNumber k)) = (numbers ≡ true) × (span ≡ true) × All (λ m. member-ranged m ≡ true) ms × First-failing card-ranged 0 cs k
-Stands numbers span first ms cs (Err (EmptyField k)) = (numbers ≡ true) × (span ≡ true) × All (λ m. member-ranged m ≡ true) ms × All (λ c. card-ranged c ≡ true) cs × First-failing drawn first ms k
-Stands numbers span first ms cs (Err (NoPlace k)) = ⊥
-Stands numbers span first ms cs (Err (BadReceipt k)) = ⊥
-Stands numbers span first ms cs (Err BookFull) = ⊥
-Stands numbers span first ms cs (Err NothingFits) = ⊥
-Stands numbers span first ms cs (Err OtherStamp) = ⊥
-Stands numbers span first ms cs (Err NoneOut) = ⊥
+abbrev pub Stands : Drawing → Result (Unit {0}) Refusal → Type 0
+Stands d (Ok u) = (d .numbers ≡ true) × (d .span ≡ true) × Members-ranged d × Cards-ranged d × Fields-drawn d
+Stands d (Err SheetNumber) = d .numbers ≡ false
+Stands d (Err MemberSpan) = (d .numbers ≡ true) × (d .span ≡ false)
+Stands d (Err (MemberNumber k)) = (d .numbers ≡ true) × (d .span ≡ true) × First-failing member-ranged (d .first) (d .members) k
+Stands d (Err (CardNumber k)) = (d .numbers ≡ true) × (d .span ≡ true) × Members-ranged d × First-failing card-ranged 0 (d .cards) k
+Stands d (Err (EmptyField k)) = (d .numbers ≡ true) × (d .span ≡ true) × Members-ranged d × Cards-ranged d × First-failing drawn (d .first) (d .members) k
+Stands d (Err (NoPlace k)) = ⊥
+Stands d (Err (BadReceipt k)) = ⊥
+Stands d (Err BookFull) = ⊥
+Stands d (Err NothingFits) = ⊥
+Stands d (Err OtherStamp) = ⊥
+Stands d (Err NoneOut) = ⊥

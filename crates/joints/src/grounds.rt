@@ -7,7 +7,7 @@ ghost use lib.ListN.{length, take, drop};
 ghost use Rattle.std.specs.declared.result.Result.the-variants.{Ok, Err};
 ghost use Rattle.plates.specs.declared.refusals.Refusal.the-variants.{SheetNumber, MemberSpan, MemberNumber, CardNumber, EmptyField};
 ghost use Rattle.joints.specs.Scan.{first-failing};
-ghost use Rattle.joints.specs.Grounds.{within, truss-ranged, spanned, own, loads-ranged, angles-ranged, depth-listed, span-ranged, member-ranged, lateral-ranged, shear-ranged, card-ranged, read-cards, drawn, unless-at};
+ghost use Rattle.joints.specs.Grounds.{within, truss-ranged, listed, spanned, paired, own, loads-ranged, angles-ranged, depth-listed, span-ranged, member-ranged, lateral-ranged, shear-ranged, card-ranged, read-cards, drawn, unless-at, numbers-stand};
 use super::scan::{Test, first_failing};
 use super::sheets::Sheet;
 use plates::Refusal;
@@ -23,28 +23,40 @@ const MAX_TOOTH_VALUE: u32 = 20_000;
 const MAX_TOOTH: u32 = 40;
 const FAMILIES: usize = 16;
 
-// Ground 1: the truss length.
-pub fn truss_stands(sheet: &Sheet) -> Result<(), Refusal>
-    ensures { λ r. ⌜ r ≡ cond (truss-ranged (now (sheet .entry))) (Ok tt) (Err SheetNumber) ⌝ }
+// A ground that is given, where its test fails.
+pub fn ground(right: bool, refusal: Refusal) -> Result<(), Refusal>
+    ensures { λ r. ⌜ r ≡ cond right (Ok tt) (Err refusal) ⌝ }
 {
-    let truss = sheet.conditions.truss;
-    if truss < 1 || truss > MAX_TRUSS {
-        return Err(Refusal::SheetNumber);
-    }
-    Ok(())
+    if right { Ok(()) } else { Err(refusal) }
 }
 
-// Ground 2: the members lie in the caller's list and number one to six.
-pub fn span_stands(sheet: &Sheet, listed: usize) -> Result<(), Refusal>
-    ensures { λ r. ⌜ r ≡ cond (spanned (now (sheet .entry)) listed) (Ok tt) (Err MemberSpan) ⌝ }
+// Ground 1: the truss length.
+pub fn truss_ranged(sheet: &Sheet) -> bool
+    ensures { λ r. ⌜ r ≡ truss-ranged (now (sheet .entry)) ⌝ }
 {
-    if sheet.count < 1 || sheet.count > MAX_MEMBERS {
-        return Err(Refusal::MemberSpan);
-    }
-    if sheet.count > listed || sheet.first > listed - sheet.count {
-        return Err(Refusal::MemberSpan);
-    }
-    Ok(())
+    let truss = sheet.conditions.truss;
+    1 <= truss && truss <= MAX_TRUSS
+}
+
+// Ground 2: the members lie in the caller's list.
+fn listed(sheet: &Sheet, list: usize) -> bool
+    ensures { λ r. ⌜ r ≡ listed (now (sheet .entry)) list ⌝ }
+{
+    sheet.count <= list && sheet.first <= list - sheet.count
+}
+
+// Ground 2: and they number one to six.
+pub fn spanned(sheet: &Sheet, list: usize) -> bool
+    ensures { λ r. ⌜ r ≡ spanned (now (sheet .entry)) list ⌝ }
+{
+    1 <= sheet.count && sheet.count <= MAX_MEMBERS && listed(sheet, list)
+}
+
+// Ground 2 for a splice: and they number two.
+pub fn paired(sheet: &Sheet, list: usize) -> bool
+    ensures { λ r. ⌜ r ≡ paired (now (sheet .entry)) list ⌝ }
+{
+    sheet.count == 2 && listed(sheet, list)
 }
 
 // The sheet's own members.
@@ -170,7 +182,7 @@ impl Test<Member> for FieldDrawn as FieldDrawnTest {
 }
 
 // Ground 3: the numbers of each member.
-pub fn members_stand(first: usize, own: &[Member]) -> Result<(), Refusal>
+fn members_stand(first: usize, own: &[Member]) -> Result<(), Refusal>
     requires { ⌜ first + length (now own) < 2 ^ 64 ⌝ }
     ensures { λ r. ⌜ r ≡ unless-at (first-failing member-ranged first (now (own .entry))) MemberNumber (Ok tt) ⌝ }
 {
@@ -181,7 +193,7 @@ pub fn members_stand(first: usize, own: &[Member]) -> Result<(), Refusal>
 }
 
 // Ground 3: the numbers of each card.
-pub fn cards_stand(cards: &[Card]) -> Result<(), Refusal>
+fn cards_stand(cards: &[Card]) -> Result<(), Refusal>
     ensures { λ r. ⌜ r ≡ unless-at (first-failing card-ranged 0 (now (cards .entry))) CardNumber (Ok tt) ⌝ }
 {
     match first_failing(&CardRanged, 0, cards) {
@@ -191,7 +203,7 @@ pub fn cards_stand(cards: &[Card]) -> Result<(), Refusal>
 }
 
 // Ground 4: the field of each member.
-pub fn fields_stand(first: usize, own: &[Member]) -> Result<(), Refusal>
+fn fields_stand(first: usize, own: &[Member]) -> Result<(), Refusal>
     requires { ⌜ first + length (now own) < 2 ^ 64 ⌝ }
     ensures { λ r. ⌜ r ≡ unless-at (first-failing drawn first (now (own .entry))) EmptyField (Ok tt) ⌝ }
 {
@@ -199,4 +211,15 @@ pub fn fields_stand(first: usize, own: &[Member]) -> Result<(), Refusal>
         Some(index) => Err(Refusal::EmptyField { index }),
         None => Ok(()),
     }
+}
+
+// Grounds 3 and 4, in their order.
+pub fn numbers_stand(sheet: &Sheet, members: &[Member], cards: &[Card]) -> Result<(), Refusal>
+    requires { ⌜ now sheet .first + now sheet .count ≤ length (now members) ⌝ }
+    ensures { λ r. ⌜ r ≡ numbers-stand (now (sheet .entry) .first) (own (now (sheet .entry)) (now (members .entry))) (read-cards (now (cards .entry))) ⌝ }
+{
+    let own = own(sheet, members);
+    members_stand(sheet.first, own)?;
+    cards_stand(read_cards(cards))?;
+    fields_stand(sheet.first, own)
 }

@@ -1,8 +1,13 @@
 // Joints as the caller draws them: a sheet over the caller's members and cards.
-pub mod grounds;
-pub mod scan;
-pub mod sheets;
-pub mod trying;
-pub mod web;
+mod grounds;
+mod heel;
+mod scan;
+mod sheets;
+mod splice;
+mod trying;
+mod web;
 
-pub use sheets::{Sheet, WebJoint};
+pub use heel::HeelJointJoint;
+pub use sheets::{HeelJoint, HeelSheet, Sheet, SpliceJoint, SpliceSheet, WebJoint};
+pub use splice::SpliceJointJoint;
+pub use web::WebJointJoint;

@@ -5,19 +5,20 @@ ghost use Prim.Native.Nat.{_≤_, _<_, _^_};
 ghost use lib.ListN.{length};
 ghost use Rattle.std.specs.shelf.Lists.{All};
 ghost use Rattle.plates.specs.Size.{size};
-ghost use Rattle.rules.specs.Clauses.{laid, meets};
-ghost use Rattle.rules.specs.Ranges.{Card-within, Member-within, Trial-within};
+ghost use Rattle.clauses.specs.Clauses.{laid, meets};
+ghost use Rattle.rules.specs.Ranges.{Card-within, Member-within};
+ghost use Rattle.clauses.specs.Within.{Trial-within};
 ghost use Rattle.joints.specs.Verdict.{first-missed};
-ghost use Rattle.joints.specs.Web.{card-of, member-clauses, each-of, checks};
+ghost use Rattle.joints.specs.Checks.{card-of, member-clauses, each-of, checks};
 use super::scan::{Test, first_failing};
 use plates::{Clause, Plate, Turning, Verdict};
-use rules::clauses::{allowed, meets, short_teeth};
-use rules::{Card, Conditions, Member, Trial};
+use clauses::{Trial, allowed, meets, short_teeth};
+use rules::{Card, Conditions, Member};
 
 const MEMBER_CLAUSES: [Clause; 6] = [Clause::Bite, Clause::CrossGrain, Clause::Grip, Clause::Tension, Clause::Shear, Clause::Slip];
 
 // The family's card.
-fn card_of(cards: &[Card], family: u32) -> Option<Card>
+pub fn card_of(cards: &[Card], family: u32) -> Option<Card>
     ensures { λ r. ⌜ r ≡ card-of (now (cards .entry)) family ⌝ }
 {
     let k = family as usize;

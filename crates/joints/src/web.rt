@@ -4,9 +4,10 @@ ghost use mathlib.Core.Path.{_≡_};
 ghost use Rattle.std.specs.declared.result.Result.the-variants.{Ok};
 ghost use Rattle.plates.specs.Size.{Size, size};
 ghost use Rattle.plates.specs.declared.turnings.Turning.{Turning};
+ghost use Rattle.joints.specs.Grounds.{Stands};
 ghost use Rattle.joints.specs.Verdict.{Judges};
-ghost use Rattle.joints.specs.Web.{web-standing, Web-stands, web-checks, web-members, web-verdict};
-use super::grounds::{cards_stand, fields_stand, members_stand, own, read_cards, span_stands, truss_stands};
+ghost use Rattle.joints.specs.Web.{web-drawing, web-standing, web-checks, web-verdict};
+use super::grounds::{ground, numbers_stand, own, read_cards, spanned, truss_ranged};
 use super::sheets::{Sheet, WebJoint};
 use super::trying::tried;
 use plates::{Joint, Plate, Refusal, Turning, Verdict};
@@ -23,8 +24,8 @@ impl<'a> WebJoint<'a> {
         ensures sheet { λ r. ⌜ r .sheet ≡ sheet ⌝ }
         ensures members { λ r. ⌜ now (r .members) ≡ now (members .entry) ⌝ }
         ensures cards { λ r. ⌜ now (r .cards) ≡ now (cards .entry) ⌝ }
-        ensures stands { λ r. ⌜ Web-stands r (web-standing r) ⌝ }
-        ensures judges { λ r. ⌜ ((s : Size) (t : Turning) → Judges (web-checks r s t) (web-members r) (web-verdict r s t)) ⌝ }
+        ensures stands { λ r. ⌜ Stands (web-drawing r) (web-standing r) ⌝ }
+        ensures judges { λ r. ⌜ ((s : Size) (t : Turning) → Judges (web-checks r s t) (web-drawing r .members) (web-verdict r s t)) ⌝ }
     {
         WebJoint { sheet, members, cards }
     }
@@ -33,12 +34,9 @@ impl<'a> WebJoint<'a> {
     fn grounds(&self) -> Result<(), Refusal>
         ensures { λ r. ⌜ r ≡ web-standing (now (self .entry)) ⌝ }
     {
-        truss_stands(&self.sheet)?;
-        span_stands(&self.sheet, self.members.len())?;
-        let own = own(&self.sheet, self.members);
-        members_stand(self.sheet.first, own)?;
-        cards_stand(read_cards(self.cards))?;
-        fields_stand(self.sheet.first, own)
+        ground(truss_ranged(&self.sheet), Refusal::SheetNumber)?;
+        ground(spanned(&self.sheet, self.members.len()), Refusal::MemberSpan)?;
+        numbers_stand(&self.sheet, self.members, self.cards)
     }
 
     // The clauses in their order.

@@ -5,6 +5,3 @@ pub mod Sides
 pub mod Bites
 pub mod Heel
 pub mod Ranges
-pub mod Splice
-pub mod Clauses
-pub mod Worked

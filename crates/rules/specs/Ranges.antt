@@ -3,12 +3,10 @@ use Prim.Native.Nat.{ℕ, _≤_, _<_}
 use lib.IntN.{pos, negsuc}
 use lib.Signed.{_≤ℤ_}
 use lib.ListN.{getD}
-use Rattle.rules.specs.declared.splices.Section.{Section}
 use Rattle.rules.specs.declared.terms.Card.{Card}
 use Rattle.rules.specs.declared.terms.Lateral.{Lateral}
 use Rattle.rules.specs.declared.terms.Member.{Member}
 use Rattle.rules.specs.declared.terms.Span.{Span}
-use Rattle.rules.specs.declared.terms.Trial.{Trial}
 
 -- each of the four values lies from `low` to 20,000
 pub record Lateral-within (low : ℕ) (v : Lateral) : Type 0 where
@@ -46,15 +44,3 @@ pub record Member-within (m : Member) : Type 0 where
   pub depth : m .depth ≤ 286
   pub x : Span-within (m .field .x)
   pub y : Span-within (m .field .y)
-
-pub record Trial-within (t : Trial) : Type 0 where
-  pub factor : t .factor ≤ 100
-  pub card : Card-within (t .card)
-
-pub record Section-within (s : Section) : Type 0 where
-  pub depth : s .depth ≤ 286
-  pub wood-low : 1 ≤ s .wood
-  pub wood-high : s .wood ≤ 400
-  pub side : s .side ≤ 1000
-  pub steel : s .steel ≤ 20000
-  pub pull : s .pull ≤ 200000

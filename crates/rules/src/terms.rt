@@ -1,7 +1,5 @@
 // What a designer writes down: cards, members and the conditions of a sheet. The numbers are as
 // the caller wrote them; whether they lie in their ranges is found before a clause is read.
-use plates::{Plate, Turning};
-
 // Four tooth or slip values in kPa for a pair of plates. In `p` the load runs along the grain,
 // in `q` across it; `p` and `q` are for load along the plate axis, `pt` and `qt` transverse to it.
 #[derive(Clone, Copy)]
@@ -126,15 +124,4 @@ pub struct Conditions {
     pub service: Service,
     pub area: Area,
     pub turnings: Turnings,
-}
-
-// One plate, laid in one turning, tried on a joint. `factor` is the moment factor of the
-// joint in hundredths, 100 off the heel.
-#[derive(Clone, Copy)]
-pub struct Trial {
-    pub conditions: Conditions,
-    pub factor: u32,
-    pub card: Card,
-    pub plate: Plate,
-    pub turning: Turning,
 }

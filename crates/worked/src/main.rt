@@ -1,8 +1,8 @@
 // Runs the joints worked by hand and prints each with its result.
-use rules::WorkedLimits;
-use rules::WorkedTeeth;
-use rules::worked_limits;
-use rules::worked_teeth;
+use clauses::WorkedLimits;
+use clauses::WorkedTeeth;
+use clauses::worked_limits;
+use clauses::worked_teeth;
 use std::io;
 
 fn print_teeth(rt: &LibcRuntime, teeth: WorkedTeeth) -> io::Result<()> {

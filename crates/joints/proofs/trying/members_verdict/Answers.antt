@@ -2,9 +2,10 @@ use mathlib.Core.Path.{sym, _∙_}
 use native.Mathlib.Omega.{arith}
 use Rattle.std.proofs.shelf.Elements.{all-weaker}
 use Rattle.plates.specs.declared.verdicts.Clause.the-variants.{Turning}
-use Rattle.rules.specs.Clauses.{laid}
-use Rattle.rules.specs.Ranges.{Member-within, Trial-within}
-use Rattle.joints.specs.Web.{member-clauses}
+use Rattle.clauses.specs.Clauses.{laid}
+use Rattle.rules.specs.Ranges.{Member-within}
+use Rattle.clauses.specs.Within.{Trial-within}
+use Rattle.joints.specs.Checks.{member-clauses}
 use Rattle.joints.proofs.Verdicts.{clause-met, clause-missed, all-met}
 use Rattle.joints.proofs.trying.members_verdict.Needs as need
 

@@ -1,7 +1,7 @@
 use mathlib.Core.Path.{_≡_}
 use lib.ListN.{drop}
-use Rattle.rules.specs.Clauses.{laid}
-use Rattle.joints.specs.Web.{member-clauses}
+use Rattle.clauses.specs.Clauses.{laid}
+use Rattle.joints.specs.Checks.{member-clauses}
 use Rattle.joints.proofs.Verdicts.{over}
 use Rattle.joints.proofs.trying.members_verdict.Given as given
 

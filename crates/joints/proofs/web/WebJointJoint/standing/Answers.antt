@@ -1,5 +1,6 @@
-use Rattle.joints.proofs.Webs.{web-grounded}
+use Rattle.joints.specs.Web.{web-drawing}
+use Rattle.joints.proofs.Standing.{grounded}
 use Rattle.joints.proofs.web.WebJointJoint.standing.Needs as need
 
 pub returns : need.returns
-returns c = record { value = c .grounds .ensures; grounded = web-grounded (c .args .self .now) }
+returns c = record { value = c .grounds .ensures; grounded = grounded (web-drawing (c .args .self .now)) }

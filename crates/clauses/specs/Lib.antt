@@ -1,0 +1,4 @@
+pub mod Within
+pub mod Splice
+pub mod Clauses
+pub mod Worked
