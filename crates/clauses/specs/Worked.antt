@@ -2,13 +2,20 @@
 use mathlib.Core.Path.{_≡_}
 use mathlib.Core.Bool.{true, false}
 use Prim.Native.Nat.{_*_}
+use lib.IntN.{pos}
 use Rattle.rules.specs.declared.terms.Duration.the-variants.{Standard}
 use Rattle.rules.specs.declared.terms.Force.the-variants.{Tension, Compression}
 use Rattle.rules.specs.declared.terms.Service.the-variants.{SeasonedDry}
 use Rattle.rules.specs.declared.terms.Species.the-variants.{SprucePineFir}
+use Rattle.clauses.specs.declared.splices.Section.{Section}
+use Rattle.clauses.specs.Splice.{axis, holds-moment}
 use Rattle.clauses.specs.Clauses.{holds-cross, capacity, holds-grip}
+use Rattle.rules.specs.Heel.{by-table, by-formula}
 use Rattle.rules.specs.Sines.{S}
-use Rattle.rules.specs.Teeth.{at-grain, between, lateral, factored}
+use Rattle.rules.specs.Teeth.{at-grain, lateral, factored}
+
+abbrev pub worked-section : Section
+worked-section = record { depth = 89; wood = 115; side = 76; steel = 200; pull = 5000 }
 
 pub record Worked-by-hand : Type 0 where
   pub sine-1 : S 1 ≡ 3
@@ -31,3 +38,11 @@ pub record Worked-by-hand : Type 0 where
   -- Q = 5,000 in spruce of depth 140
   pub cross-holds : holds-cross SprucePineFir 5000 140 61 ≡ true
   pub cross-misses : holds-cross SprucePineFir 5000 140 60 ≡ false
+  -- the factor of a heel by table and by formula, at 1/4, 5/12 and 47/100
+  pub quarter : (by-table 1 4 ≡ 80) × (by-formula 1 4 ≡ 80)
+  pub five-twelfths : (by-table 5 12 ≡ 70) × (by-formula 5 12 ≡ 70)
+  pub steep : (by-table 47 100 ≡ 65) × (by-formula 47 100 ≡ 66)
+  -- a splice of t = 200, w = 76, d = 89, C = 115 and T = 5,000: its axis and the greatest moment
+  pub neutral-axis : axis worked-section ≡ pos 2717
+  pub moment-holds : holds-moment 117118 worked-section ≡ true
+  pub moment-misses : holds-moment 117119 worked-section ≡ false

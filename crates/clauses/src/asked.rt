@@ -7,9 +7,26 @@ ghost use Rattle.rules.specs.Ranges.{Card-within, Member-within};
 ghost use Rattle.clauses.specs.Within.{Section-within, Trial-within};
 use super::splices::Section;
 use super::trials::Trial;
-use plates::{Clause, Turning};
-use rules::{Area, Axis, Card, Force, Member, Species, Turnings};
-use rules::{along, bite, cut_all, extent, factored, full_side, lateral, net_side, service_factor, shearing, tensile};
+use plates::Clause;
+use plates::Turning;
+use rules::Area;
+use rules::Axis;
+use rules::Card;
+use rules::Force;
+use rules::Member;
+use rules::Species;
+use rules::Turnings;
+use rules::along;
+use rules::bite;
+use rules::cut_all;
+use rules::extent;
+use rules::factored;
+use rules::full_side;
+use rules::lateral;
+use rules::net_side;
+use rules::service_factor;
+use rules::shearing;
+use rules::tensile;
 
 // A: the sheet allows the turning.
 pub fn allowed(turnings: Turnings, turning: Turning) -> bool
@@ -85,7 +102,11 @@ fn counted(trial: &Trial, member: &Member, axis: Axis) -> u32
     match trial.conditions.area {
         Area::Net => {
             let span = along(&member.field, axis);
-            net_side(&span, trial.card.tooth, extent(&trial.plate, trial.turning, axis))
+            net_side(
+                &span,
+                trial.card.tooth,
+                extent(&trial.plate, trial.turning, axis),
+            )
         }
         Area::Gross => full(trial, member, axis),
     }
@@ -150,7 +171,12 @@ fn tooth_resistance(trial: &Trial, member: &Member) -> u32
 {
     let values = cut_all(trial.conditions.area, trial.card.teeth);
     let n = lateral(values, member.theta, to_axis(trial.turning, member.rho));
-    factored(n, trial.conditions.duration, trial.conditions.service, trial.factor)
+    factored(
+        n,
+        trial.conditions.duration,
+        trial.conditions.service,
+        trial.factor,
+    )
 }
 
 // What the teeth hold over that area, in N.
@@ -250,7 +276,11 @@ fn slips(trial: &Trial, member: &Member) -> bool
     requires member { ⌜ Member-within (now member) ⌝ }
     ensures { λ r. ⌜ r ≡ slips (laid (now (trial .entry))) (now (member .entry)) ⌝ }
 {
-    let ns = lateral(trial.card.slip, member.theta, to_axis(trial.turning, member.rho));
+    let ns = lateral(
+        trial.card.slip,
+        member.theta,
+        to_axis(trial.turning, member.rho),
+    );
     let service = service_factor(trial.conditions.service);
     holds_slip(member.specified, ns, service, bearing(trial, member))
 }
@@ -284,7 +314,13 @@ pub fn section(trial: &Trial, member: &Member, wood: u32) -> Section
     let side = full(trial, member, crosswise(member.grain));
     let steel = tensile(&trial.card, to_axis(trial.turning, member.rho));
     let pull = pull(member.force, member.normal);
-    Section { depth: member.depth, wood, side, steel, pull }
+    Section {
+        depth: member.depth,
+        wood,
+        side,
+        steel,
+        pull,
+    }
 }
 
 // Whether the member meets the clause; the clauses of the joint as a whole ask nothing of one member.

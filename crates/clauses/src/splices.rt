@@ -46,7 +46,7 @@ fn floored(z: i64, g: u32) -> i64
 }
 
 // The neutral axis in hundredths of a millimetre from the chord's centre line.
-fn axis(s: &Section) -> i64
+pub(crate) fn axis(s: &Section) -> i64
     requires { ⌜ Section-within (now s) ⌝ }
     ensures { λ r. ⌜ r ≡ axis (now (s .entry)) ⌝ }
 {

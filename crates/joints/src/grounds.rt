@@ -8,19 +8,31 @@ ghost use Rattle.std.specs.declared.result.Result.the-variants.{Ok, Err};
 ghost use Rattle.plates.specs.declared.refusals.Refusal.the-variants.{SheetNumber, MemberSpan, MemberNumber, CardNumber, EmptyField};
 ghost use Rattle.joints.specs.Scan.{first-failing};
 ghost use Rattle.joints.specs.Grounds.{within, truss-ranged, listed, spanned, paired, own, loads-ranged, angles-ranged, depth-listed, span-ranged, member-ranged, lateral-ranged, shear-ranged, card-ranged, read-cards, drawn, unless-at, numbers-stand};
-use super::scan::{Test, first_failing};
+use super::scan::Test;
+use super::scan::first_failing;
 use super::sheets::Sheet;
 use plates::Refusal;
-use rules::{Card, Lateral, Member, Span};
+use rules::Card;
+use rules::Lateral;
+use rules::Member;
+use rules::Span;
 
 const MAX_TRUSS: u32 = 30_500;
+
 const MAX_MEMBERS: usize = 6;
+
 const MAX_LOAD: u32 = 200_000;
+
 const MAX_DISTANCE: i32 = 1000;
+
 const MAX_STEEL: u32 = 2000;
+
 const MIN_TOOTH_VALUE: u32 = 10;
+
 const MAX_TOOTH_VALUE: u32 = 20_000;
+
 const MAX_TOOTH: u32 = 40;
+
 const FAMILIES: usize = 16;
 
 // A ground that is given, where its test fails.
@@ -71,7 +83,11 @@ pub fn own<'a>(sheet: &Sheet, members: &'a [Member]) -> &'a [Member]
 pub fn read_cards(cards: &[Card]) -> &[Card]
     ensures { λ r. ⌜ now r ≡ read-cards (now (cards .entry)) ⌝ }
 {
-    if cards.len() > FAMILIES { &cards[0..FAMILIES] } else { cards }
+    if cards.len() > FAMILIES {
+        &cards[0..FAMILIES]
+    } else {
+        cards
+    }
 }
 
 fn loads_ranged(m: &Member) -> bool
@@ -89,25 +105,41 @@ fn angles_ranged(m: &Member) -> bool
 fn depth_listed(depth: u32) -> bool
     ensures { λ r. ⌜ r ≡ depth-listed depth ⌝ }
 {
-    depth == 64 || depth == 89 || depth == 114 || depth == 140 || depth == 184 || depth == 235 || depth == 286
+    depth == 64
+        || depth == 89
+        || depth == 114
+        || depth == 140
+        || depth == 184
+        || depth == 235
+        || depth == 286
 }
 
 fn span_ranged(span: &Span) -> bool
     ensures { λ r. ⌜ r ≡ span-ranged (now (span .entry)) ⌝ }
 {
-    -MAX_DISTANCE <= span.low && span.low <= MAX_DISTANCE && -MAX_DISTANCE <= span.high && span.high <= MAX_DISTANCE
+    -MAX_DISTANCE <= span.low
+        && span.low <= MAX_DISTANCE
+        && -MAX_DISTANCE <= span.high
+        && span.high <= MAX_DISTANCE
 }
 
 fn member_ranged(m: &Member) -> bool
     ensures { λ r. ⌜ r ≡ member-ranged (now (m .entry)) ⌝ }
 {
-    loads_ranged(m) && angles_ranged(m) && depth_listed(m.depth) && span_ranged(&m.field.x) && span_ranged(&m.field.y)
+    loads_ranged(m)
+        && angles_ranged(m)
+        && depth_listed(m.depth)
+        && span_ranged(&m.field.x)
+        && span_ranged(&m.field.y)
 }
 
 fn lateral_ranged(v: &Lateral) -> bool
     ensures { λ r. ⌜ r ≡ lateral-ranged (now (v .entry)) ⌝ }
 {
-    tooth_value_ranged(v.p) && tooth_value_ranged(v.q) && tooth_value_ranged(v.pt) && tooth_value_ranged(v.qt)
+    tooth_value_ranged(v.p)
+        && tooth_value_ranged(v.q)
+        && tooth_value_ranged(v.pt)
+        && tooth_value_ranged(v.qt)
 }
 
 fn tooth_value_ranged(v: u32) -> bool
@@ -126,7 +158,12 @@ fn shear_ranged(v: [u32; 6]) -> bool
     ensures { λ r. ⌜ r ≡ shear-ranged v ⌝ }
 {
     let [a, b, c, d, e, f] = v;
-    steel_ranged(a) && steel_ranged(b) && steel_ranged(c) && steel_ranged(d) && steel_ranged(e) && steel_ranged(f)
+    steel_ranged(a)
+        && steel_ranged(b)
+        && steel_ranged(c)
+        && steel_ranged(d)
+        && steel_ranged(e)
+        && steel_ranged(f)
 }
 
 fn card_ranged(c: &Card) -> bool

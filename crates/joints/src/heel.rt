@@ -7,11 +7,23 @@ ghost use Rattle.plates.specs.declared.turnings.Turning.{Turning};
 ghost use Rattle.joints.specs.Heels.{heel-ranged, heel-drawing, heel-standing, heel-checks, heel-verdict};
 ghost use Rattle.joints.specs.Grounds.{Stands};
 ghost use Rattle.joints.specs.Verdict.{Judges};
-use super::grounds::{ground, numbers_stand, own, read_cards, spanned, truss_ranged};
-use super::sheets::{HeelJoint, HeelSheet};
+use super::grounds::ground;
+use super::grounds::numbers_stand;
+use super::grounds::own;
+use super::grounds::read_cards;
+use super::grounds::spanned;
+use super::grounds::truss_ranged;
+use super::sheets::HeelJoint;
+use super::sheets::HeelSheet;
 use super::trying::tried;
-use plates::{Joint, Plate, Refusal, Turning, Verdict};
-use rules::{Card, Member, heel_factor};
+use plates::Joint;
+use plates::Plate;
+use plates::Refusal;
+use plates::Turning;
+use plates::Verdict;
+use rules::Card;
+use rules::Member;
+use rules::heel_factor;
 
 const MAX_SLOPE: u32 = 10_000;
 
@@ -19,7 +31,11 @@ const MAX_SLOPE: u32 = 10_000;
 fn heel_ranged(heel: &HeelSheet) -> bool
     ensures { λ r. ⌜ r ≡ heel-ranged (now (heel .entry)) ⌝ }
 {
-    truss_ranged(&heel.sheet) && 1 <= heel.rise && heel.rise <= MAX_SLOPE && 1 <= heel.run && heel.run <= MAX_SLOPE
+    truss_ranged(&heel.sheet)
+        && 1 <= heel.rise
+        && heel.rise <= MAX_SLOPE
+        && 1 <= heel.run
+        && heel.run <= MAX_SLOPE
 }
 
 impl<'a> HeelJoint<'a> {
@@ -32,7 +48,11 @@ impl<'a> HeelJoint<'a> {
         ensures stands { λ r. ⌜ Stands (heel-drawing r) (heel-standing r) ⌝ }
         ensures judges { λ r. ⌜ ((s : Size) (t : Turning) → Judges (heel-checks r s t) (heel-drawing r .members) (heel-verdict r s t)) ⌝ }
     {
-        HeelJoint { heel, members, cards }
+        HeelJoint {
+            heel,
+            members,
+            cards,
+        }
     }
 
     // The grounds in their order.
@@ -52,7 +72,14 @@ impl<'a> HeelJoint<'a> {
     {
         let own = own(&self.heel.sheet, self.members);
         let factor = heel_factor(self.heel.rule, self.heel.rise, self.heel.run);
-        tried(&self.heel.sheet.conditions, factor, read_cards(self.cards), own, plate, turning)
+        tried(
+            &self.heel.sheet.conditions,
+            factor,
+            read_cards(self.cards),
+            own,
+            plate,
+            turning,
+        )
     }
 }
 

@@ -8,6 +8,11 @@ mod trying;
 mod web;
 
 pub use heel::HeelJointJoint;
-pub use sheets::{HeelJoint, HeelSheet, Sheet, SpliceJoint, SpliceSheet, WebJoint};
+pub use sheets::HeelJoint;
+pub use sheets::HeelSheet;
+pub use sheets::Sheet;
+pub use sheets::SpliceJoint;
+pub use sheets::SpliceSheet;
+pub use sheets::WebJoint;
 pub use splice::SpliceJointJoint;
 pub use web::WebJointJoint;

@@ -13,14 +13,31 @@ ghost use Rattle.rules.specs.Ranges.{Member-within};
 ghost use Rattle.joints.specs.Splices.{splice-ranged, splice-drawing, splice-standing, splice-clauses, splice-checks, splice-verdict};
 ghost use Rattle.joints.specs.Grounds.{Stands};
 ghost use Rattle.joints.specs.Verdict.{Judges, first-missed};
-use super::grounds::{ground, numbers_stand, own, paired, read_cards, truss_ranged};
-use super::sheets::{SpliceJoint, SpliceSheet};
-use super::trying::{card_of, tried};
-use clauses::{Trial, extends, holds_moment, section};
-use plates::{Clause, Joint, Plate, Refusal, Turning, Verdict};
-use rules::{Card, Member};
+use super::grounds::ground;
+use super::grounds::numbers_stand;
+use super::grounds::own;
+use super::grounds::paired;
+use super::grounds::read_cards;
+use super::grounds::truss_ranged;
+use super::sheets::SpliceJoint;
+use super::sheets::SpliceSheet;
+use super::trying::card_of;
+use super::trying::tried;
+use clauses::Trial;
+use clauses::extends;
+use clauses::holds_moment;
+use clauses::section;
+use plates::Clause;
+use plates::Joint;
+use plates::Plate;
+use plates::Refusal;
+use plates::Turning;
+use plates::Verdict;
+use rules::Card;
+use rules::Member;
 
 const MAX_MOMENT: u32 = 20_000_000;
+
 const MAX_WOOD: u32 = 400;
 
 // Off the heel the moment factor is 100.
@@ -30,7 +47,10 @@ const FACTOR: u32 = 100;
 fn splice_ranged(splice: &SpliceSheet) -> bool
     ensures { λ r. ⌜ r ≡ splice-ranged (now (splice .entry)) ⌝ }
 {
-    truss_ranged(&splice.sheet) && splice.moment <= MAX_MOMENT && 1 <= splice.wood && splice.wood <= MAX_WOOD
+    truss_ranged(&splice.sheet)
+        && splice.moment <= MAX_MOMENT
+        && 1 <= splice.wood
+        && splice.wood <= MAX_WOOD
 }
 
 // J and K, of the first member.
@@ -46,10 +66,16 @@ fn splice_clauses(splice: &SpliceSheet, trial: &Trial, own: &[Member]) -> Verdic
     }
     let first = &own[0];
     if !extends(trial, first) {
-        return Verdict::Misses { clause: Clause::Extent, member: 0 };
+        return Verdict::Misses {
+            clause: Clause::Extent,
+            member: 0,
+        };
     }
     if !holds_moment(splice.moment, &section(trial, first, splice.wood)) {
-        return Verdict::Misses { clause: Clause::Moment, member: 0 };
+        return Verdict::Misses {
+            clause: Clause::Moment,
+            member: 0,
+        };
     }
     Verdict::Passes
 }
@@ -64,7 +90,11 @@ impl<'a> SpliceJoint<'a> {
         ensures stands { λ r. ⌜ Stands (splice-drawing r) (splice-standing r) ⌝ }
         ensures judges { λ r. ⌜ ((s : Size) (t : Turning) → Judges (splice-checks r s t) (splice-drawing r .members) (splice-verdict r s t)) ⌝ }
     {
-        SpliceJoint { splice, members, cards }
+        SpliceJoint {
+            splice,
+            members,
+            cards,
+        }
     }
 
     // The grounds in their order.
@@ -92,7 +122,17 @@ impl<'a> SpliceJoint<'a> {
         let Some(card) = card_of(cards, plate.family()) else {
             return verdict;
         };
-        splice_clauses(&self.splice, &Trial { conditions, factor: FACTOR, card, plate, turning }, own)
+        splice_clauses(
+            &self.splice,
+            &Trial {
+                conditions,
+                factor: FACTOR,
+                card,
+                plate,
+                turning,
+            },
+            own,
+        )
     }
 }
 

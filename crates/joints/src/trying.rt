@@ -10,19 +10,39 @@ ghost use Rattle.rules.specs.Ranges.{Card-within, Member-within};
 ghost use Rattle.clauses.specs.Within.{Trial-within};
 ghost use Rattle.joints.specs.Verdict.{first-missed};
 ghost use Rattle.joints.specs.Checks.{card-of, member-clauses, each-of, checks};
-use super::scan::{Test, first_failing};
-use plates::{Clause, Plate, Turning, Verdict};
-use clauses::{Trial, allowed, meets, short_teeth};
-use rules::{Card, Conditions, Member};
+use super::scan::Test;
+use super::scan::first_failing;
+use clauses::Trial;
+use clauses::allowed;
+use clauses::meets;
+use clauses::short_teeth;
+use plates::Clause;
+use plates::Plate;
+use plates::Turning;
+use plates::Verdict;
+use rules::Card;
+use rules::Conditions;
+use rules::Member;
 
-const MEMBER_CLAUSES: [Clause; 6] = [Clause::Bite, Clause::CrossGrain, Clause::Grip, Clause::Tension, Clause::Shear, Clause::Slip];
+const MEMBER_CLAUSES: [Clause; 6] = [
+    Clause::Bite,
+    Clause::CrossGrain,
+    Clause::Grip,
+    Clause::Tension,
+    Clause::Shear,
+    Clause::Slip,
+];
 
 // The family's card.
 pub fn card_of(cards: &[Card], family: u32) -> Option<Card>
     ensures { λ r. ⌜ r ≡ card-of (now (cards .entry)) family ⌝ }
 {
     let k = family as usize;
-    if k < cards.len() { Some(cards[k]) } else { None }
+    if k < cards.len() {
+        Some(cards[k])
+    } else {
+        None
+    }
 }
 
 // The test that a member clause makes of each member.
@@ -50,7 +70,10 @@ fn members_verdict(trial: &Trial, own: &[Member]) -> Verdict
     ensures { λ r. ⌜ r ≡ first-missed (each-of member-clauses (laid (now (trial .entry)))) (now (own .entry)) ⌝ }
 {
     for clause in MEMBER_CLAUSES {
-        let test = Meets { clause, trial: *trial };
+        let test = Meets {
+            clause,
+            trial: *trial,
+        };
         if let Some(member) = first_failing(&test, 1, own) {
             return Verdict::Misses { clause, member };
         }
@@ -59,7 +82,14 @@ fn members_verdict(trial: &Trial, own: &[Member]) -> Verdict
 }
 
 // The verdict of the clauses A to I on one plate in one turning.
-pub fn tried(conditions: &Conditions, factor: u32, cards: &[Card], own: &[Member], plate: Plate, turning: Turning) -> Verdict
+pub fn tried(
+    conditions: &Conditions,
+    factor: u32,
+    cards: &[Card],
+    own: &[Member],
+    plate: Plate,
+    turning: Turning,
+) -> Verdict
     requires factor { ⌜ factor ≤ 100 ⌝ }
     requires cards { ⌜ All Card-within (now cards) ⌝ }
     requires own { ⌜ All Member-within (now own) ⌝ }
@@ -67,14 +97,32 @@ pub fn tried(conditions: &Conditions, factor: u32, cards: &[Card], own: &[Member
     ensures { λ r. ⌜ r ≡ first-missed (checks (now (conditions .entry)) factor (card-of (now (cards .entry)) (size plate .family)) (size plate) turning) (now (own .entry)) ⌝ }
 {
     if !allowed(conditions.turnings, turning) {
-        return Verdict::Misses { clause: Clause::Turning, member: 0 };
+        return Verdict::Misses {
+            clause: Clause::Turning,
+            member: 0,
+        };
     }
     let Some(card) = card_of(cards, plate.family()) else {
-        return Verdict::Misses { clause: Clause::Card, member: 0 };
+        return Verdict::Misses {
+            clause: Clause::Card,
+            member: 0,
+        };
     };
     if !short_teeth(&card) {
-        return Verdict::Misses { clause: Clause::Teeth, member: 0 };
+        return Verdict::Misses {
+            clause: Clause::Teeth,
+            member: 0,
+        };
     }
     let conditions = *conditions;
-    members_verdict(&Trial { conditions, factor, card, plate, turning }, own)
+    members_verdict(
+        &Trial {
+            conditions,
+            factor,
+            card,
+            plate,
+            turning,
+        },
+        own,
+    )
 }

@@ -7,11 +7,22 @@ ghost use Rattle.plates.specs.declared.turnings.Turning.{Turning};
 ghost use Rattle.joints.specs.Grounds.{Stands};
 ghost use Rattle.joints.specs.Verdict.{Judges};
 ghost use Rattle.joints.specs.Web.{web-drawing, web-standing, web-checks, web-verdict};
-use super::grounds::{ground, numbers_stand, own, read_cards, spanned, truss_ranged};
-use super::sheets::{Sheet, WebJoint};
+use super::grounds::ground;
+use super::grounds::numbers_stand;
+use super::grounds::own;
+use super::grounds::read_cards;
+use super::grounds::spanned;
+use super::grounds::truss_ranged;
+use super::sheets::Sheet;
+use super::sheets::WebJoint;
 use super::trying::tried;
-use plates::{Joint, Plate, Refusal, Turning, Verdict};
-use rules::{Card, Member};
+use plates::Joint;
+use plates::Plate;
+use plates::Refusal;
+use plates::Turning;
+use plates::Verdict;
+use rules::Card;
+use rules::Member;
 
 // Off the heel the moment factor is 100.
 const FACTOR: u32 = 100;
@@ -27,7 +38,11 @@ impl<'a> WebJoint<'a> {
         ensures stands { λ r. ⌜ Stands (web-drawing r) (web-standing r) ⌝ }
         ensures judges { λ r. ⌜ ((s : Size) (t : Turning) → Judges (web-checks r s t) (web-drawing r .members) (web-verdict r s t)) ⌝ }
     {
-        WebJoint { sheet, members, cards }
+        WebJoint {
+            sheet,
+            members,
+            cards,
+        }
     }
 
     // The grounds in their order.
@@ -35,7 +50,10 @@ impl<'a> WebJoint<'a> {
         ensures { λ r. ⌜ r ≡ web-standing (now (self .entry)) ⌝ }
     {
         ground(truss_ranged(&self.sheet), Refusal::SheetNumber)?;
-        ground(spanned(&self.sheet, self.members.len()), Refusal::MemberSpan)?;
+        ground(
+            spanned(&self.sheet, self.members.len()),
+            Refusal::MemberSpan,
+        )?;
         numbers_stand(&self.sheet, self.members, self.cards)
     }
 
@@ -45,7 +63,14 @@ impl<'a> WebJoint<'a> {
         ensures { λ r. ⌜ r ≡ web-verdict (now (self .entry)) (size plate) turning ⌝ }
     {
         let own = own(&self.sheet, self.members);
-        tried(&self.sheet.conditions, FACTOR, read_cards(self.cards), own, plate, turning)
+        tried(
+            &self.sheet.conditions,
+            FACTOR,
+            read_cards(self.cards),
+            own,
+            plate,
+            turning,
+        )
     }
 }
 

@@ -4,8 +4,11 @@ ghost use Prim.Native.Nat.{_≤_};
 pub mod making;
 
 pub const MIN_SIDE: u32 = 20;
+
 pub const MAX_WIDTH: u32 = 300;
+
 pub const MAX_LENGTH: u32 = 1000;
+
 pub const MAX_FAMILY: u32 = 15;
 
 // One plate of a pair: width and length in mm, and the family that its card is listed under.

@@ -63,7 +63,10 @@ impl Verdict {
     {
         match self {
             Verdict::Passes => true,
-            Verdict::Misses { clause: _, member: _ } => false,
+            Verdict::Misses {
+                clause: _,
+                member: _,
+            } => false,
         }
     }
 

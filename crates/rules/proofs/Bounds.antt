@@ -18,9 +18,9 @@ inverse-mean m p q x y t hp hq e =
     subst (λ (n : ℕ). n / (p * x + q * y) ≤ m)
     (sym (ap (λ n. p * q * n) (sym e) ∙ mul-add (p * q) x y ∙ (λ i. left i + mul-assoc p q y i)))
     (mean m q p (p * x) (q * y) (p * x + q * y) hq hp (λ i. p * x + q * y))
-    where
-      left : p * q * x ≡ q * (p * x)
-      left = mul-assoc p q x ∙ mul-left-comm p q x
+  where
+    left : p * q * x ≡ q * (p * x)
+    left = mul-assoc p q x ∙ mul-left-comm p q x
 
 -- what is multiplied by one or more does not shrink
 pub grown : (p x : ℕ) → 1 ≤ p → x ≤ p * x

@@ -11,11 +11,40 @@ pub struct BiteRow {
     pub last: u32,
 }
 
-const TO_114: BiteRow = BiteRow { first: 38, second: 45, third: 51, last: 57 };
-const TO_140: BiteRow = BiteRow { first: 38, second: 51, third: 57, last: 64 };
-const TO_184: BiteRow = BiteRow { first: 51, second: 57, third: 64, last: 76 };
-const TO_235: BiteRow = BiteRow { first: 64, second: 70, third: 76, last: 83 };
-const TO_286: BiteRow = BiteRow { first: 76, second: 76, third: 83, last: 89 };
+const TO_114: BiteRow = BiteRow {
+    first: 38,
+    second: 45,
+    third: 51,
+    last: 57,
+};
+
+const TO_140: BiteRow = BiteRow {
+    first: 38,
+    second: 51,
+    third: 57,
+    last: 64,
+};
+
+const TO_184: BiteRow = BiteRow {
+    first: 51,
+    second: 57,
+    third: 64,
+    last: 76,
+};
+
+const TO_235: BiteRow = BiteRow {
+    first: 64,
+    second: 70,
+    third: 76,
+    last: 83,
+};
+
+const TO_286: BiteRow = BiteRow {
+    first: 76,
+    second: 76,
+    third: 83,
+    last: 89,
+};
 
 fn by_truss(truss: u32, row: BiteRow) -> u32
     ensures { λ r. ⌜ r ≡ by-truss truss row ⌝ }

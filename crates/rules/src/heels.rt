@@ -49,7 +49,10 @@ fn by_formula(rise: u32, run: u32) -> u32
     ensures value { λ r. ⌜ r ≡ by-formula rise run ⌝ }
     ensures bound { λ r. ⌜ r ≤ 100 ⌝ }
 {
-    95u32.saturating_sub(rounded_up(60 * rise, run)).min(85).max(65)
+    95u32
+        .saturating_sub(rounded_up(60 * rise, run))
+        .min(85)
+        .max(65)
 }
 
 fn ruled(choice: Option<FactorRule>) -> FactorRule

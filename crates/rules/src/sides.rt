@@ -7,8 +7,12 @@ ghost use Rattle.std.specs.Numbers.{minZ, maxZ};
 ghost use Rattle.plates.specs.Size.{size};
 ghost use Rattle.rules.specs.Ranges.{Span-within};
 ghost use Rattle.rules.specs.Sides.{extent, halved, contact, setback, along, full-side, net-side};
-use super::terms::{Axis, Field, Mark, Span};
-use plates::{Plate, Turning};
+use super::terms::Axis;
+use super::terms::Field;
+use super::terms::Mark;
+use super::terms::Span;
+use plates::Plate;
+use plates::Turning;
 
 // How far the plate reaches along the axis, from one of its ends to the other.
 pub fn extent(plate: &Plate, turning: Turning, axis: Axis) -> u32

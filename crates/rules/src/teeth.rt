@@ -4,7 +4,10 @@ ghost use Prim.Native.Nat.{_≤_};
 ghost use Rattle.rules.specs.Teeth.{at-grain, between, lateral, cut, cut-all, duration-factor, service-factor, factored};
 ghost use Rattle.rules.specs.Ranges.{Lateral-within};
 use super::sines::square_sine;
-use super::terms::{Area, Duration, Lateral, Service};
+use super::terms::Area;
+use super::terms::Duration;
+use super::terms::Lateral;
+use super::terms::Service;
 
 // A value for load at `theta` to the grain, from `p` along it and `q` across it.
 pub fn at_grain(p: u32, q: u32, theta: u32) -> u32

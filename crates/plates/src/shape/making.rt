@@ -3,7 +3,11 @@ ghost use mathlib.Core.Path.{_≡_};
 ghost use Prim.Native.Nat.{_*_};
 ghost use Rattle.std.specs.Options.{mapped};
 ghost use Rattle.plates.specs.Size.{size, sized, area};
-use super::{MAX_FAMILY, MAX_LENGTH, MAX_WIDTH, MIN_SIDE, Plate};
+use super::MAX_FAMILY;
+use super::MAX_LENGTH;
+use super::MAX_WIDTH;
+use super::MIN_SIDE;
+use super::Plate;
 
 impl Plate {
     // The plate of these numbers, or nothing where no such plate exists.
@@ -19,7 +23,11 @@ impl Plate {
         if family > MAX_FAMILY {
             return None;
         }
-        Some(Plate { width, length, family })
+        Some(Plate {
+            width,
+            length,
+            family,
+        })
     }
 
     pub fn width(&self) -> u32

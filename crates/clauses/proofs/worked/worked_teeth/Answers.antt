@@ -2,19 +2,9 @@ use mathlib.Core.Path.{_≡_, refl, sym, ap, _∙_}
 use Rattle.rules.specs.declared.terms.Duration.the-variants.{Standard}
 use Rattle.rules.specs.declared.terms.Service.the-variants.{SeasonedDry}
 use Rattle.clauses.specs.Clauses.{capacity}
-use Rattle.rules.specs.Sines.{S, squares}
-use Rattle.rules.specs.Teeth.{at-grain, between, factored}
-use Rattle.clauses.specs.Worked.{Worked-by-hand}
+use Rattle.rules.specs.Teeth.{factored}
+use Rattle.clauses.proofs.ByHand.{by-hand}
 use Rattle.clauses.proofs.worked.worked_teeth.Needs as need
-
-by-hand : Worked-by-hand
-unfolding S squares at-grain between factored
-by-hand = record {
-  sine-1 = refl; sine-30 = refl; sine-44 = refl;
-  along = refl; across = refl; n = refl; resistance = refl; cap = refl;
-  tension-holds = refl; tension-misses = refl; compression-holds = refl; compression-misses = refl;
-  cross-holds = refl; cross-misses = refl;
-}
 
 pub returns : need.returns
 returns c =

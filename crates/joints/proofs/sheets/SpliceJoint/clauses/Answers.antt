@@ -80,6 +80,6 @@ returns c =
     let has : splice-card j p ≡ Some (c .in-Some .card) = (λ i. card-of (sym (c .read-cards-cards .ensures) i) (sym (c .family .ensures) i)) ∙ sym (c .in-Some .ensures tt) in
     let ms = splice-drawing j .members in
     let next : c .splice-clauses .result ≡ first-missed (rest j p t) ms =
-          c .splice-clauses .ensures ∙ (λ i. first-missed (splice-only (j .splice) (Some (c .in-Some .card)) p t (c .own-own .ensures i)) (c .own-own .ensures i)) ∙ (λ i. first-missed (splice-only (j .splice) (sym has i) p t ms) ms)
+    c .splice-clauses .ensures ∙ (λ i. first-missed (splice-only (j .splice) (Some (c .in-Some .card)) p t (c .own-own .ensures i)) (c .own-own .ensures i)) ∙ (λ i. first-missed (splice-only (j .splice) (sym has i) p t ms) ms)
     in
     went-on j p t _ _ is (sym (c .if-not-passes .ensures tt)) next
