@@ -1,4 +1,4 @@
--- What the bench answers for a sheet of a job.
+-- What is answered for a sheet of a job.
 use mathlib.Core.Path.{_≡_}
 use Prim.Native.Nat.{ℕ}
 use Rattle.std.specs.Of.Vec.{vec-items}
@@ -20,7 +20,7 @@ use Rattle.jobs.specs.declared.reader.Entry.{Entry}
 use Rattle.jobs.specs.declared.reader.Kind.{Kind}
 use Rattle.jobs.specs.declared.reader.Kind.the-variants.{Web}
 use Rattle.jobs.specs.declared.webs.Tried.{Tried}
-use Rattle.bench.specs.declared.answers.Picked.{Picked}
+use Rattle.answers.specs.declared.wording.Picked.{Picked}
 
 abbrev pub as-choice : Result Picked Refusal → Result Choice Refusal
 as-choice (Ok p) = Ok (record { candidate = (p .place, p .turning); area = p .area; asked = p .asked })

@@ -1,6 +1,6 @@
 // What the bench answers for a sheet, and how it is written.
 ghost use mathlib.Core.Path.{_≡_};
-ghost use Rattle.bench.specs.Picks.{as-choice, Shown};
+ghost use Rattle.answers.specs.Picks.{as-choice, Shown};
 ghost use Rattle.choice.specs.Choosing.{Chosen};
 use choice::choose;
 use plates::Clause;

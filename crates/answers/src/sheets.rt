@@ -1,7 +1,7 @@
 // The sheets of a job, handed to the engine.
-ghost use Rattle.bench.specs.Picks.{Picks, Judges};
-use super::answers::Picked;
-use super::answers::pick;
+ghost use Rattle.answers.specs.Picks.{Picks, Judges};
+use super::wording::Picked;
+use super::wording::pick;
 use choice::judge;
 use jobs::Block;
 use jobs::Entry;
