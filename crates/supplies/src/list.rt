@@ -2,6 +2,7 @@
 ghost use denote.Ref.{now};
 ghost use mathlib.Core.Path.{_≡_};
 ghost use Rattle.supplies.specs.Rows.{list-places, list-shows};
+ghost use Rattle.supplies.specs.Shown.{All-exist};
 use plates::Plate;
 use plates::Supply;
 
@@ -20,7 +21,8 @@ pub struct MakersList<'a> {
 
 impl<'a> MakersList<'a> {
     pub fn new(rows: &'a [Row]) -> Self
-        ensures { λ r. ⌜ now (r .rows) ≡ now (rows .entry) ⌝ }
+        ensures rows { λ r. ⌜ now (r .rows) ≡ now (rows .entry) ⌝ }
+        ensures exist { λ r. ⌜ All-exist (list-shows (now (r .rows))) ⌝ }
     {
         MakersList { rows }
     }
