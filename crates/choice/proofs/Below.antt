@@ -18,7 +18,7 @@ use Rattle.choice.specs.declared.Offer.{Offer}
 use Rattle.choice.specs.Choosing.{Fits, NoLater}
 use Rattle.choice.specs.Offers.{below, offered, placed}
 
-some-is-not-none : {o : Option Size} {s : Size} → o ≡ None → o ≡ Some s → ⊥
+pub some-is-not-none : {o : Option Size} {s : Size} → o ≡ None → o ≡ Some s → ⊥
 some-is-not-none n e = let z : _≡_ {A = ℕ} 0 1 = cc in omega arith
 
 -- what fits below n fits, and its place is below n; and back

@@ -1,3 +1,8 @@
 mod Below
 mod Step
 mod End
+mod Written
+mod Rows
+mod Growing
+mod Accounts
+mod Entries

@@ -1,2 +1,4 @@
 pub mod Choosing
 pub mod Offers
+pub mod Books
+pub mod Explaining

@@ -1,10 +1,20 @@
-// Judging one plate and choosing the least, for any joint and any supply.
+// Judging one plate, choosing the least and explaining, for any joint and any supply; and the
+// row book that takes what is explained.
 ghost use mathlib.Core.Path.{_≡_};
 ghost use Prim.Native.Nat.{_+_};
 ghost use Rattle.std.specs.declared.result.Result.the-variants.{Ok};
 ghost use Rattle.plates.specs.Size.{size};
 ghost use Rattle.choice.specs.Choosing.{Judged, Chosen};
 ghost use Rattle.choice.specs.Offers.{answered, below, Best, first-passing, lesser-of, offered};
+
+pub mod book;
+pub mod explaining;
+#[cfg(test)]
+mod tests;
+
+pub use book::RowBook;
+pub use explaining::ExplainRow;
+pub use explaining::explain;
 use plates::Joint;
 use plates::Plate;
 use plates::Refusal;
