@@ -3,8 +3,9 @@
 
     tools/oracle.py limits DIR    a job text on both sides of every limit, and what `bench judge` answers
     tools/oracle.py random DIR N  N random web joints, and what `bench choose` answers
+    tools/oracle.py ranges DIR    each number of a card at the ends of its range, as the program `ranges` has it
 
-Each writes DIR/stdin and DIR/stdout. It shares no code with the engine and computes the
+Each writes DIR/stdout and, where there is a text, DIR/stdin. It shares no code with the engine and computes the
 sines with the C library's, so that the two can only agree by both being right.
 """
 import math
@@ -364,8 +365,28 @@ def random_job(count, seed=1):
     return job, [choose_line(job, i + 1, s) for i, s in enumerate(job["sheets"])]
 
 
+def ranges():
+    """A second card with one number altered: is the joint lawful?"""
+    lines = []
+    for number in range(17):
+        for value in ((9, 10, 20000, 20001) if number < 8 else (0, 1, 2000, 2001) if number < 16 else (0, 1, 40, 41)):
+            card = deepcopy(CARD)
+            if number == 16:
+                card["tooth"] = value
+            else:
+                key = ["teeth", "slip", "tension", "shear", "shear"][number // 4 if number < 8 else 2 if number < 10 else 3]
+                card[key][number % 4 if number < 8 else number - 8 if number < 10 else number - 10] = value
+            told = "lawful" if card_right(card) else "refused 3 at card 1"
+            lines.append(f"number {number} at {value}: {told}")
+    return lines
+
+
 def main():
     kind, folder, *rest = sys.argv[1:]
+    if kind == "ranges":
+        with open(folder + "/stdout", "w") as f:
+            f.write("\n".join(ranges()) + "\n")
+        return
     job, answers = limits() if kind == "limits" else random_job(int(rest[0]))
     with open(folder + "/stdin", "w") as f:
         f.write(text(job))
