@@ -1,0 +1,5 @@
+mod Tables
+mod Moves
+mod Books
+mod Racks
+mod Replaying

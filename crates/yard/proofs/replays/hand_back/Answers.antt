@@ -1,0 +1,22 @@
+use Rattle.std.specs.declared.result.Result.the-variants.{Ok, Err}
+use Rattle.yard.specs.Counts.{told}
+use Rattle.yard.proofs.Racks.{hands-back}
+use Rattle.yard.proofs.replays.hand_back.Needs as need
+
+pub returns-in-Ok : need.returns-in-Ok
+returns-in-Ok g c =
+    let done = c .in-Ok .ensures tt in
+    record {
+      answer = hands-back (c .args .yard .now .stamp) (c .in-Drawn .slip) (c .args .held) (told (c .args .yard .now .bins)) (told (c .hand-back .last .self .bins)) (Ok (c .in-Ok .field-0)) (c .in-Drawn .is) (done .answer);
+      pile = done .pile;
+      stamp = done .stamp;
+    }
+
+pub returns-in-Err : need.returns-in-Err
+returns-in-Err g c =
+    let done = c .in-Err .ensures tt in
+    record {
+      answer = hands-back (c .args .yard .now .stamp) (c .in-Drawn .slip) (c .args .held) (told (c .args .yard .now .bins)) (told (c .hand-back .last .self .bins)) (Err (c .in-Err .field-0)) (c .in-Drawn .is) (done .answer);
+      pile = done .pile;
+      stamp = done .stamp;
+    }
