@@ -1,4 +1,6 @@
 // What is answered for the sheets of a job text, one line a sheet.
+#![tactic(auto)]
+
 mod commands;
 mod failures;
 mod sheets;

@@ -1,4 +1,6 @@
 // What is answered for the sheets of a job text, line by line.
+#![tactic(auto)]
+
 mod accounts;
 mod commands;
 mod failures;

@@ -1,4 +1,6 @@
 // What is asked of the engine for the sheets of a job: the least plate, a verdict, or why.
+#![tactic(auto)]
+
 pub mod accounts;
 pub mod picks;
 pub mod pile;

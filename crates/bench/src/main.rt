@@ -1,4 +1,6 @@
 // Chooses or judges plates for the sheets of a job text.
+#![tactic(auto)]
+
 use answers::{Command, Failure, Source, answer};
 use std::env;
 

@@ -1,4 +1,6 @@
 // Chooses, judges or explains plates for the sheets of a job text.
+#![tactic(auto)]
+
 use answers_next::{Command, Failure, Form, Source, answer};
 use std::env;
 

@@ -1,4 +1,6 @@
 // The blocks of a job text: for each its keys, what its lines have said so far, and what they give as a whole.
+#![tactic(auto)]
+
 pub mod cards;
 pub mod heels;
 pub mod members;

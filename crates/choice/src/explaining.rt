@@ -23,8 +23,8 @@ pub fn explain<J: Joint, S: Supply>(
     supply: &S,
     book: &mut RowBook<'_, ExplainRow>,
 ) -> Result<(), Refusal>
-    ensures rows { Explained (standing joint.now) (verdict joint.now) (places supply.now) (shows supply.now) book.old book.new result }
-    ensures account { Accounted (standing joint.now) (verdict joint.now) (places supply.now) (shows supply.now) }
+    ensures rows { Explained (J.standing joint.now) (J.verdict joint.now) (S.places supply.now) (S.shows supply.now) book.old book.new result }
+    ensures account { Accounted (J.standing joint.now) (J.verdict joint.now) (S.places supply.now) (S.shows supply.now) }
     ensures grounds { Grounds result }
     ensures one_memory { OneMemory book.old book.new }
 {
@@ -46,7 +46,7 @@ fn has_room(free: usize, plates: u32) -> bool
 
 // How many of the first places show a plate.
 fn count_shown<S: Supply>(supply: &S, count: u32) -> u32
-    ensures { result ≡ shown count (shows supply.now) }
+    ensures { result ≡ shown count (S.shows supply.now) }
 {
     let mut plates = 0;
     for place in 0..count {
@@ -64,9 +64,9 @@ fn write_all<J: Joint, S: Supply>(
     count: u32,
     book: &mut RowBook<'_, ExplainRow>,
 )
-    requires lawful { standing joint.now ≡ Ok tt }
-    requires room { book.old.used + length (explained (verdict joint.now) count (shows supply.now)) ≤ length (memory book.old) }
-    ensures grown { Grown book.old (explained (verdict joint.now) count (shows supply.now)) book.new }
+    requires lawful { J.standing joint.now ≡ Ok tt }
+    requires room { book.old.used + length (explained (J.verdict joint.now) count (S.shows supply.now)) ≤ length (memory book.old) }
+    ensures grown { Grown book.old (explained (J.verdict joint.now) count (S.shows supply.now)) book.new }
     ensures one_memory { OneMemory book.old book.new }
 {
     for place in 0..count {
@@ -81,9 +81,9 @@ fn write_place<J: Joint, S: Supply>(
     place: u32,
     book: &mut RowBook<'_, ExplainRow>,
 )
-    requires lawful { standing joint.now ≡ Ok tt }
-    requires room { book.old.used + length (rows_at (verdict joint.now) place (shows supply.now place)) ≤ length (memory book.old) }
-    ensures grown { Grown book.old (rows_at (verdict joint.now) place (shows supply.now place)) book.new }
+    requires lawful { J.standing joint.now ≡ Ok tt }
+    requires room { book.old.used + length (rows_at (J.verdict joint.now) place (S.shows supply.now place)) ≤ length (memory book.old) }
+    ensures grown { Grown book.old (rows_at (J.verdict joint.now) place (S.shows supply.now place)) book.new }
     ensures one_memory { OneMemory book.old book.new }
 {
     if let Some(plate) = supply.plate(place) {
@@ -93,8 +93,8 @@ fn write_place<J: Joint, S: Supply>(
 }
 
 fn row<J: Joint>(joint: &J, place: u32, plate: Plate, turning: Turning) -> ExplainRow
-    requires { standing joint.now ≡ Ok tt }
-    ensures { result ≡ row_of (verdict joint.now) place (size plate) turning }
+    requires { J.standing joint.now ≡ Ok tt }
+    ensures { result ≡ row_of (J.verdict joint.now) place (size plate) turning }
 {
     ExplainRow {
         place,

@@ -1,5 +1,7 @@
 // Judging one plate, choosing the least and explaining, for any joint and any supply; and the
 // row book that takes what is explained.
+#![tactic(auto)]
+
 ghost use Rattle.std.specs.Prelude.{◌≡◌, ◌+◌, Ok};
 ghost use Rattle.plates.specs.Size.{size};
 ghost use Rattle.choice.specs.Choosing.{Judged, Chosen};
@@ -35,7 +37,7 @@ struct Offer {
 
 // The verdict on one plate in one turning, or the joint's refusal.
 pub fn judge<J: Joint>(joint: &J, plate: Plate, turning: Turning) -> Result<Verdict, Refusal>
-    ensures { Judged (standing joint.now) (verdict joint.now) plate turning result }
+    ensures { Judged (J.standing joint.now) (J.verdict joint.now) plate turning result }
 {
     joint.standing()?;
     Ok(joint.verdict(plate, turning))
@@ -44,7 +46,7 @@ pub fn judge<J: Joint>(joint: &J, plate: Plate, turning: Turning) -> Result<Verd
 // The least plate that passes, of all that the supply shows; ties go to the lower place,
 // then to unturned.
 pub fn choose<J: Joint, S: Supply>(joint: &J, supply: &S) -> Result<Choice, Refusal>
-    ensures { Chosen (standing joint.now) (verdict joint.now) (places supply.now) (shows supply.now) result }
+    ensures { Chosen (J.standing joint.now) (J.verdict joint.now) (S.places supply.now) (S.shows supply.now) result }
 {
     joint.standing()?;
     let mut best = None;
@@ -63,17 +65,17 @@ fn best_through<J: Joint, S: Supply>(
     place: u32,
     best: Option<Offer>,
 ) -> Option<Offer>
-    requires lawful { standing joint.now ≡ Ok tt }
-    requires before { Best (verdict joint.now) (below place (shows supply.now)) best }
-    ensures { Best (verdict joint.now) (below (place + 1) (shows supply.now)) result }
+    requires lawful { J.standing joint.now ≡ Ok tt }
+    requires before { Best (J.verdict joint.now) (below place (S.shows supply.now)) best }
+    ensures { Best (J.verdict joint.now) (below (place + 1) (S.shows supply.now)) result }
 {
     lesser(best, offer_at(joint, supply, place))
 }
 
 // What the plate at one place offers, if it passes.
 fn offer_at<J: Joint, S: Supply>(joint: &J, supply: &S, place: u32) -> Option<Offer>
-    requires { standing joint.now ≡ Ok tt }
-    ensures { result ≡ offered (verdict joint.now) place (shows supply.now place) }
+    requires { J.standing joint.now ≡ Ok tt }
+    ensures { result ≡ offered (J.verdict joint.now) place (S.shows supply.now place) }
 {
     let plate = supply.plate(place)?;
     let turning = passing_turning(joint, plate)?;
@@ -85,8 +87,8 @@ fn offer_at<J: Joint, S: Supply>(joint: &J, supply: &S, place: u32) -> Option<Of
 
 // The first turning in which the plate passes: unturned is tried first.
 fn passing_turning<J: Joint>(joint: &J, plate: Plate) -> Option<Turning>
-    requires { standing joint.now ≡ Ok tt }
-    ensures { result ≡ first_passing (verdict joint.now (size plate)) }
+    requires { J.standing joint.now ≡ Ok tt }
+    ensures { result ≡ first_passing (J.verdict joint.now (size plate)) }
 {
     if joint.verdict(plate, Turning::Unturned).passes() {
         return Some(Turning::Unturned);

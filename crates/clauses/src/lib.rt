@@ -1,6 +1,8 @@
 // The clauses: what each asks of a plate that is laid in one turning over a member. Those that
 // clauses of a joint call ask that the numbers lie within their ranges, which the standing of the
 // joint establishes.
+#![tactic(auto)]
+
 mod asked;
 mod splices;
 mod trials;

@@ -1,4 +1,6 @@
 // Replays the journal of a yard over the pile of a job.
+#![tactic(auto)]
+
 use floors::{Failure, Order, run};
 use std::env;
 use texts::Value;

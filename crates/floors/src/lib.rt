@@ -1,5 +1,7 @@
 // A yard by its journal: the calls replayed from the yard's making on, their answers, and what
 // stands in the yard after them.
+#![tactic(auto)]
+
 mod failures;
 mod program;
 mod writing;

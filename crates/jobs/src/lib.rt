@@ -1,4 +1,6 @@
 // The job text: what a designer writes down, read into cards, members, sheets and a maker's list.
+#![tactic(auto)]
+
 pub mod blocks;
 pub mod cards;
 pub mod faults;

@@ -1,4 +1,6 @@
 // The tests of `jobs`: what a text gives, and what a text that breaks the format is told.
+#![tactic(auto)]
+
 #[cfg(test)]
 mod faults;
 #[cfg(test)]

@@ -1,4 +1,6 @@
 // Joints as the caller draws them: a sheet over the caller's members and cards.
+#![tactic(auto)]
+
 mod any;
 mod grounds;
 mod heel;

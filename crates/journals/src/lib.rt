@@ -1,4 +1,6 @@
 // The journal of a yard: the calls made on it, one a line, in the order in which they were made.
+#![tactic(auto)]
+
 pub mod calls;
 pub mod ordinals;
 pub mod reader;

@@ -1,4 +1,6 @@
 // Answers joints on both sides of every limit; tools/oracle.py made the text and the expected answers.
+#![tactic(auto)]
+
 use answers::{Command, Failure, Source, answer};
 
 fn main(rt: HostRuntime) -> Result<(), Failure> {

@@ -1,4 +1,6 @@
 // Answers many random joints; tools/oracle.py made the text and the expected answers.
+#![tactic(auto)]
+
 use answers_next::{Command, Failure, Source, answer};
 
 fn main(rt: HostRuntime) -> Result<(), Failure> {

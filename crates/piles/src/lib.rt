@@ -1,4 +1,6 @@
 // The blocks of a job text that say which plates there are: a coil cutter, a press limit and a strike list.
+#![tactic(auto)]
+
 pub mod coils;
 pub mod presses;
 pub mod strikes;

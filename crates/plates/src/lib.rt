@@ -1,5 +1,7 @@
 // The vocabulary of the engine: the plate, its turning, the verdict on it, the refusals,
 // and the two traits that everything above is generic in, a supply of plates and a joint.
+#![tactic(auto)]
+
 pub mod refusals;
 pub mod shape;
 pub mod traits;

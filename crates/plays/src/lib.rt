@@ -1,4 +1,6 @@
 // A journal played on a new yard: the answers, and what they come to.
+#![tactic(auto)]
+
 pub mod fates;
 pub mod lists;
 pub mod playing;

@@ -1,5 +1,7 @@
 // Tries each number of a card at the ends of its range and one beyond, and prints the standing of
 // a joint over that card; tools/oracle.py made the expected lines.
+#![tactic(auto)]
+
 use joints::{Sheet, WebJoint};
 use plates::Joint;
 use rules::{

@@ -3,6 +3,8 @@
 // in N, angles in whole degrees, factors in hundredths, tooth and slip values in kPa; every
 // division rounds down. The functions ask for numbers within their ranges, which the standing of
 // a joint establishes.
+#![tactic(auto)]
+
 mod bites;
 mod heels;
 mod sides;

@@ -1,3 +1,3 @@
 mod Cuts
 mod Layering
-mod Struck
+mod Strikes

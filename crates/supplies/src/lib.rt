@@ -1,4 +1,6 @@
 // The supplies of plates: a maker's list, a coil cutter, and two kinds of layer over any supply, alone or as a list.
+#![tactic(auto)]
+
 pub mod coil;
 pub mod layered;
 pub mod limit;

@@ -1,4 +1,6 @@
 // A text of lines, each a key and its values: its words, its numbers, its blocks and its one fault.
+#![tactic(auto)]
+
 pub mod drafts;
 pub mod faults;
 pub mod line;

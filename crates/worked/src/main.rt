@@ -1,4 +1,6 @@
 // Runs the joints worked by hand and prints each with its result.
+#![tactic(auto)]
+
 use clauses::{
     WorkedHeels, WorkedLimits, WorkedSplice, WorkedTeeth, worked_heels, worked_limits,
     worked_splice, worked_teeth,

@@ -1,4 +1,6 @@
 // The yard: the pairs on hand and out at 256 places of a pile, and the slips for those out.
+#![tactic(auto)]
+
 pub mod bins;
 pub mod hooks;
 pub mod replays;

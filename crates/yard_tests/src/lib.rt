@@ -1,4 +1,6 @@
 // The tests of `yard`: the calls at their limits, slips of other yards, and replays.
+#![tactic(auto)]
+
 #[cfg(test)]
 mod bounds;
 #[cfg(test)]

@@ -28,10 +28,10 @@ returns g c =
     let v = g.J.Joint.verdict c.args.joint.now in
     let shows = g.S.Supply.shows c.args.supply.now in
     let lawful : Ok tt ≡ g.J.Joint.standing c.args.joint.now = search rules in
-    let room = enough v c.places-count.result shows c.args.book.now c.free.ensures c.count-shown.ensures c.if-not-has-room.ensures in
+    let room = enough v c.places-count.result shows c.args.book.now c.free.ensures c.count_shown.ensures c.if-not-has_room.ensures in
     record {
       rows = all_entered v c.places-count.result shows c.args.book.now c.write-all.new.book lawful c.places-count.ensures.value room c.write-all.ensures.grown;
       account = accounted v (g.S.Supply.places c.args.supply.now) shows lawful c.places-count.ensures.beyond;
       grounds = tt;
-      one-memory = c.write-all.ensures.one-memory;
+      one_memory = c.write-all.ensures.one-memory;
     }

@@ -15,6 +15,6 @@ write-place-requires g c =
 
 pub loop-place-preserved : goal.loop-place-preserved
 loop-place-preserved g c = (
-  place_grown (g.J.Joint.verdict c.args.joint.now) c.loop-place.place (g.S.Supply.shows c.args.supply.now) c.args.book.now c.loop-place.book c.write-place.new.book c.loop-place.invariant.0 c.write-place.ensures.grown,
-  c.write-place.ensures.one-memory ∙ c.loop-place.invariant.1,
+  place_grown (g.J.Joint.verdict c.args.joint.now) c.loop-place.place (g.S.Supply.shows c.args.supply.now) c.args.book.now c.loop-place.book c.write_place.new.book c.loop-place.invariant.0 c.write_place.ensures.grown,
+  c.write_place.ensures.one_memory ∙ c.loop-place.invariant.1,
 )

@@ -15,7 +15,7 @@ pub returns-in-Some : goal.returns-in-Some
 returns-in-Some g c =
     record {
       grown = pair_grown (g.J.Joint.verdict c.args.joint.now) c.args.place (size c.in-Some.plate) c.args.book.now c.write.new.self c.write-in-Some.new.self c.in-Some.ensures c.requires.room c.row.ensures c.row-in-Some.ensures c.write.ensures.stored c.write-in-Some.ensures.stored;
-      one-memory = c.write-in-Some.ensures.one-memory ∙ c.write.ensures.one-memory;
+      one_memory = c.write-in-Some.ensures.one_memory ∙ c.write.ensures.one_memory;
     }
 
 pub returns-in-default : goal.returns-in-default

@@ -8,5 +8,5 @@ returns g c =
     let room : c.args.self.now.used < length (memory c.args.self.now) = omega (arith, c.free.ensures) in
     record {
       entered = (omega arith, grown_one c.args.self.now c.write.new.self c.args.row room c.write.ensures.stored);
-      one-memory = c.write.ensures.one-memory;
+      one_memory = c.write.ensures.one_memory;
     }

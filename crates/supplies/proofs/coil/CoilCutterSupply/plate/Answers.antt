@@ -4,9 +4,9 @@ use Rattle.supplies.proofs.coil.CoilCutterSupply.plate.Goals as goal
 
 pub bounds-self-place : goal.bounds-self-place
 bounds-self-place c =
-    omega (arith, width_read c.args.self.now.widths.now c.args.self.now.steps c.steps-read-steps.result c.places.result c.args.place c.steps-read-steps.ensures c.places.ensures.value c.if-place-places.false)
+    omega (arith, width_read c.args.self.now.widths.now c.args.self.now.steps c.steps_read-steps.result c.places.result c.args.place c.steps_read-steps.ensures c.places.ensures.value c.if-place-places.false)
 
 pub returns : goal.returns
 returns c =
     c.new.ensures
-    ∙ cut_shown c.args.self.now.family c.args.self.now.widths.now c.args.self.now.first c.args.self.now.step c.args.self.now.steps c.steps-read-steps.result c.places.result c.in-ok-length.length c.args.place c.steps-read-steps.ensures c.places.ensures.value c.in-ok-length.ensures.1 c.if-place-places.false
+    ∙ cut_shown c.args.self.now.family c.args.self.now.widths.now c.args.self.now.first c.args.self.now.step c.args.self.now.steps c.steps_read-steps.result c.places.result c.in_ok-length.length c.args.place c.steps_read-steps.ensures c.places.ensures.value c.in_ok-length.ensures.1 c.if-place-places.false

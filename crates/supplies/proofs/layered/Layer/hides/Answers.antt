@@ -8,4 +8,4 @@ pub returns-in-Strike : goal.returns-in-Strike
 returns-in-Strike c =
     let struck = c.in-Strike.struck in
     let read : c.min-count.result - 0 ≡ min struck.count 32 = omega (arith, c.min-count.ensures) in
-    c.is-struck.ensures ∙ ap (λ n. listed (take 32 (take n struck.places)) c.args.place) read ∙ ap (λ l. hides l c.args.place (size c.args.plate)) (sym c.in-Strike.is)
+    c.is_struck.ensures ∙ ap (λ n. listed (take 32 (take n struck.places)) c.args.place) read ∙ ap (λ l. hides l c.args.place (size c.args.plate)) (sym c.in-Strike.is)

@@ -1,5 +1,5 @@
 use Rattle.std.proofs.Common.{refl}
-use Rattle.supplies.proofs.Struck.{strike_laws}
+use Rattle.supplies.proofs.Strikes.{strike_laws}
 use Rattle.supplies.proofs.strike.StrikeList.new.Goals as goal
 
 pub returns : goal.returns

@@ -1,5 +1,5 @@
 use Rattle.std.proofs.Common.{◌-◌, arith}
-use Rattle.supplies.proofs.Struck.{listed_read}
+use Rattle.supplies.proofs.Strikes.{listed_read}
 use Rattle.supplies.proofs.strike.StrikeList.strikes.Goals as goal
 
 pub returns : goal.returns
