@@ -20,10 +20,10 @@ first_read js n e =
     (λ h. take_all n js (omega arith) ∙ sym (take_all 32 js h))
     (cases_lt 32 (length js))
 
-pub listed_read : (struck : List ℕ) (n k : ℕ) (r : Bool) → n ≡ min (length struck) 32 → IsAnyAnswer (λ y t. Decides t (y ≡ k)) (take n struck) r → r ≡ listed (take 32 struck) k
+pub listed_read : (struck : List ℕ) (n k : ℕ) (r : Bool) → n ≡ min (length struck) 32 → IsAnyAnswer (λ y t. eqb y k ≡ t) (take n struck) r → r ≡ listed (take 32 struck) k
 listed_read struck n k r e h =
     same_from_decides r (listed (take 32 struck) k)
-    (contains_decides eqb Decides-eqb (take 32 struck) k r (subst (λ l. IsAnyAnswer (λ y t. Decides t (y ≡ k)) l r) (first_read struck n e) h))
+    (contains_decides eqb Decides-eqb (take 32 struck) k r (subst (λ l. IsAnyAnswer (λ y t. eqb y k ≡ t) l r) (first_read struck n e) h))
     (listed_decides (take 32 struck) k)
 
 pub strike_laws : (struck : List ℕ) → StrikeLaws struck

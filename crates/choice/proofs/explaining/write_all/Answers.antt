@@ -6,8 +6,8 @@ use Rattle.choice.proofs.explaining.write_all.Goals as goal
 pub loop-place-init : goal.loop-place-init
 loop-place-init g c = (grown_none c.args.book.now, refl)
 
-pub write-place-requires : goal.write-place-requires
-write-place-requires g c =
+pub write_place-requires : goal.write_place-requires
+write_place-requires g c =
     record {
       lawful = c.requires.lawful;
       room = place_room (g.J.Joint.verdict c.args.joint.now) c.loop-place.place c.args.count (g.S.Supply.shows c.args.supply.now) c.args.book.now c.loop-place.book (omega arith) c.requires.room c.loop-place.invariant.0;

@@ -18,9 +18,9 @@ returns-in-Some g c =
       one_memory = c.write-in-Some.ensures.one_memory ∙ c.write.ensures.one_memory;
     }
 
-pub returns-in-default : goal.returns-in-default
-returns-in-default g c =
+pub returns-in_default : goal.returns-in_default
+returns-in_default g c =
     record {
-      grown = none_grown (g.J.Joint.verdict c.args.joint.now) c.args.place c.args.book.now c.in-default.ensures;
-      one-memory = refl;
+      grown = none_grown (g.J.Joint.verdict c.args.joint.now) c.args.place c.args.book.now c.in_default.ensures;
+      one_memory = refl;
     }
