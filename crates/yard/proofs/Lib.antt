@@ -3,5 +3,5 @@ mod Moves
 mod Books
 mod Racks
 mod Replaying
-mod Rooms
+mod Taken
 mod Hanging

@@ -110,7 +110,7 @@ pub(crate) fn perform<P: Supply, J: Joint>(
     ensures answer { (made : List Event) × Does (map (means J.Joint.standing J.Joint.verdict) joints.now) (P.Supply.places yard.old.pile) (P.Supply.shows yard.old.pile) yard.old.stamp call (record { rack = rack.entry.now.items; counts = told yard.old.bins }) result made (record { rack = rack.exit.now.items; counts = told yard.new.bins }) }
     ensures pile { yard.new.pile ≡ yard.old.pile }
     ensures stamp { yard.new.stamp ≡ yard.old.stamp }
-    ensures room { vec_capacity rack.new ≡ vec_capacity rack.old }
+    ensures room { vec_capacity rack.old ≤ vec_capacity rack.new }
 {
     match call {
         Call::Receive { place, pairs } => Answer::Received(yard.receive(place, pairs)),
@@ -135,7 +135,7 @@ fn draw<P: Supply, J: Joint>(
     ensures answer { (made : List Event) × Draws (P.Supply.shows yard.old.pile) yard.old.stamp (slice_get (map (means J.Joint.standing J.Joint.verdict) joints.now) joint) number (record { rack = rack.entry.now.items; counts = told yard.old.bins }) result made (record { rack = rack.exit.now.items; counts = told yard.new.bins }) }
     ensures pile { yard.new.pile ≡ yard.old.pile }
     ensures stamp { yard.new.stamp ≡ yard.old.stamp }
-    ensures room { vec_capacity rack.new ≡ vec_capacity rack.old }
+    ensures room { vec_capacity rack.old ≤ vec_capacity rack.new }
 {
     if joint >= joints.len() {
         return Answer::NoJoint;
@@ -155,7 +155,7 @@ fn use_slip<P: Supply>(yard: &mut Yard<P>, rack: &mut Vec<Hook>, hook: usize, wa
     ensures answer { (made : List Event) × OnHook yard.old.stamp way hook (record { rack = rack.entry.now.items; counts = told yard.old.bins }) result made (record { rack = rack.exit.now.items; counts = told yard.new.bins }) }
     ensures pile { yard.new.pile ≡ yard.old.pile }
     ensures stamp { yard.new.stamp ≡ yard.old.stamp }
-    ensures room { vec_capacity rack.new ≡ vec_capacity rack.old }
+    ensures room { vec_capacity rack.old ≤ vec_capacity rack.new }
 {
     let held = take_down(rack, hook);
     let (left, answer) = used(yard, held, way);
@@ -232,7 +232,7 @@ fn void(held: Hook) -> (Hook, Answer)
 fn take_down(rack: &mut Vec<Hook>, hook: usize) -> Hook
     ensures held { result ≡ hung rack.old.items hook }
     ensures rack { rack.new.items ≡ slice_set rack.old.items hook Hook.Empty }
-    ensures room { vec_capacity rack.new ≡ vec_capacity rack.old }
+    ensures room { vec_capacity rack.old ≤ vec_capacity rack.new }
 {
     exchange(rack, hook, Hook::Empty)
 }
@@ -242,7 +242,7 @@ fn hang(rack: &mut Vec<Hook>, hook: usize, held: Hook)
     requires free { hung rack.old.items hook ≡ Hook.Empty }
     requires there { vec_len rack.old ≤ hook → held ≡ Hook.Empty }
     ensures rack { rack.new.items ≡ slice_set rack.old.items hook held }
-    ensures room { vec_capacity rack.new ≡ vec_capacity rack.old }
+    ensures room { vec_capacity rack.old ≤ vec_capacity rack.new }
 {
     match exchange(rack, hook, held) {
         Hook::Empty => {}
@@ -254,7 +254,7 @@ fn hang(rack: &mut Vec<Hook>, hook: usize, held: Hook)
 fn exchange(rack: &mut Vec<Hook>, hook: usize, new: Hook) -> Hook
     ensures old { result ≡ slice_index_or rack.old.items hook new }
     ensures rack { rack.new.items ≡ slice_set rack.old.items hook new }
-    ensures room { vec_capacity rack.new ≡ vec_capacity rack.old }
+    ensures room { vec_capacity rack.old ≤ vec_capacity rack.new }
 {
     if hook < rack.len() {
         std::mem::replace(&mut rack[hook], new)
@@ -275,7 +275,7 @@ fn has_room<T>(items: &mut Vec<T>) -> bool
 fn add<T>(items: &mut Vec<T>, item: T)
     requires { vec_len items.old < vec_capacity items.old }
     ensures items { items.new.items ≡ items.old.items ++ item ∷ [] }
-    ensures room { vec_capacity items.new ≡ vec_capacity items.old }
+    ensures room { vec_capacity items.old ≤ vec_capacity items.new }
 {
     match items.push(item) {
         Ok(()) => {}

@@ -3,9 +3,9 @@ use Rattle.asking.specs.Verdicts.{Asked, AllJudged}
 use Rattle.asking.proofs.Judging.{each_more, each_all, untried_at}
 use Rattle.asking.proofs.verdicts.judgements.Goals as goal
 
-pub returns-in-default : goal.returns-in-default
-returns-in-default c =
-    untried_at (vec_items c.args.job.now.sheets) c.deref-entry-items.result.now c.loop-entry.entry-index c.entry-item.result c.untried.result c.deref-entry-items.ensures.value c.loop-entry-test.true c.entry-item.is c.in-default.is c.untried.ensures
+pub returns-in_default : goal.returns-in_default
+returns-in_default c =
+    untried_at (vec_items c.args.job.now.sheets) c.deref-entry-items.result.now c.loop-entry.entry-index c.entry-item.result c.untried.result c.deref-entry-items.ensures.value c.loop-entry-test.true c.entry-item.is c.in_default.is c.untried.ensures
 
 pub loop-entry-init : goal.loop-entry-init
 loop-entry-init c = subst (AllJudged c.args.job.now (take 0 (vec_items c.args.job.now.sheets))) (sym c.new-all.ensures.items) tt

@@ -3,4 +3,4 @@ use Rattle.blocks.proofs.members.four_sides.Goals as goal
 
 pub returns : goal.returns
 returns g c =
-    (_, c.in-ok-value.ensures.value, (_, c.in-ok-value-2.ensures.value, (_, c.in-ok-value-3.ensures.value, (_, c.in-ok-value-4.ensures.value, refl))))
+    (_, c.in_ok-value.ensures.value, (_, c.in_ok-value-2.ensures.value, (_, c.in_ok-value-3.ensures.value, (_, c.in_ok-value-4.ensures.value, refl))))

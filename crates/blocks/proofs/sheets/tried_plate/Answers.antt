@@ -18,5 +18,5 @@ named bs ns after p said h =
 
 pub returns : goal.returns
 returns c =
-    let said = named (rest c.args.line.now) _ (rest c.numbers.new.self) (size c.in-Some.plate) c.in-ok-width.ensures.numbers c.in-Some.ensures in
-    (rest c.numbers.new.self, said, c.in-ok-value.ensures.value)
+    let said = named (rest c.args.line.now) _ (rest c.numbers.new.self) (size c.in-Some.plate) c.in_ok-width.ensures.numbers c.in-Some.ensures in
+    (rest c.numbers.new.self, said, c.in_ok-value.ensures.value)

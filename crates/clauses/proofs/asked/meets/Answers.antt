@@ -44,5 +44,5 @@ pub returns-in-Slip : goal.returns-in-Slip
 unfolding meets
 returns-in-Slip c = c.slips.ensures ∙ ap (λ k. meets k (laid c.args.trial.now) c.args.member.now) (sym c.in-Slip.is)
 
-pub returns-in-default : goal.returns-in-default
-returns-in-default c = let n = c.in-default in others _ _ _ n.not-Bite n.not-CrossGrain n.not-Grip n.not-Tension n.not-Shear n.not-Slip
+pub returns-in_default : goal.returns-in_default
+returns-in_default c = let n = c.in_default in others _ _ _ n.not-Bite n.not-CrossGrain n.not-Grip n.not-Tension n.not-Shear n.not-Slip

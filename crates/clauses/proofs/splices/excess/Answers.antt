@@ -12,8 +12,8 @@ push s h = mul-le (38 * s.depth) s.wood (38 * 286) 400 (omega (arith, h.depth)) 
 hold : (s : Section) → SectionWithin s → 20 * s.side * s.steel ≤ 20 * 1000 * 20000
 hold s h = mul-le (20 * s.side) s.steel (20 * 1000) 20000 (omega (arith, h.side)) h.steel
 
-pub overflow-add-push : goal.overflow-add-push
-overflow-add-push c = omega (arith, push c.args.s.now c.requires, c.requires.pull)
+pub overflow_add-push : goal.overflow_add-push
+overflow_add-push c = omega (arith, push c.args.s.now c.requires, c.requires.pull)
 
 pub returns : goal.returns
 unfolding excess

@@ -7,8 +7,8 @@ use Rattle.clauses.proofs.splices.floored.Goals as goal
 pub returns : goal.returns
 returns c =
     let z : SFits w64 c.args.z = search rules in
-    let r : SFits w64 c.div-euclid.result = search rules in
+    let r : SFits w64 c.div_euclid.result = search rules in
     let g : to_z w64 c.args.g ≡ pos c.args.g = omega (arith, ints) in
-    let same = simp (g, to_z-of_z) at c.div-euclid.ensures in
-    let is : to_z w64 (of_z w64 c.div-euclid.result) ≡ floored c.args.z c.args.g = to_z-of_z w64 _ r ∙ same ∙ floored_is c.args.z c.args.g in
+    let same = simp (g, to_z-of_z) at c.div_euclid.ensures in
+    let is : to_z w64 (of_z w64 c.div_euclid.result) ≡ floored c.args.z c.args.g = to_z-of_z w64 _ r ∙ same ∙ floored_is c.args.z c.args.g in
     record { value = is; means = subst (Floor c.args.z c.args.g) (sym is) (floor c.args.z c.args.g c.requires) }

@@ -19,8 +19,8 @@ module _ (s : Section) (y : ℤ) (within : SectionWithin s) (low : neg_ℤ (pos 
   fits : SFits w64 (pos (100000 * s.pull) *ℤ y)
   fits = fits_64 _ bounds.0 bounds.1
 
-pub overflow-mul-result-2 : goal.overflow-mul-result-2
-overflow-mul-result-2 c =
+pub overflow_mul-result-2 : goal.overflow_mul-result-2
+overflow_mul-result-2 c =
     let e = pulled c.args.s.now c.args.y c.requires.section c.requires.low c.requires.high in
     let y : SFits w64 c.args.y = search rules in
     simp (e, to_z-of_z) (fits c.args.s.now c.args.y c.requires.section c.requires.low c.requires.high)

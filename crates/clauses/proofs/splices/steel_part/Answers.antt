@@ -4,8 +4,8 @@ use Rattle.std.proofs.lemmas.Int.{ints, to_z-of_z}
 use Rattle.clauses.specs.Splice.{steel_part, square}
 use Rattle.clauses.proofs.splices.steel_part.Goals as goal
 
-pub overflow-mul-result-2 : goal.overflow-mul-result-2
-overflow-mul-result-2 c = omega (arith, mul-le (270 * c.args.s.now.steel) c.square.result (270 * 20000) 10000000000 (omega (arith, c.requires.section.steel)) c.square.ensures.bound)
+pub overflow_mul-result-2 : goal.overflow_mul-result-2
+overflow_mul-result-2 c = omega (arith, mul-le (270 * c.args.s.now.steel) c.square.result (270 * 20000) 10000000000 (omega (arith, c.requires.section.steel)) c.square.ensures.bound)
 
 pub returns : goal.returns
 unfolding steel_part

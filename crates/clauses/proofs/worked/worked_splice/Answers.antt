@@ -8,5 +8,5 @@ returns c =
     let fits : SFits w64 c.axis-axis.result = search rules in
     let y = to_z-of_z w64 _ fits ∙ c.axis-axis.ensures ∙ by_hand.neutral_axis in
     let at = c.holds_moment.ensures ∙ by_hand.moment_holds in
-    let beyond = c.holds-moment-2.ensures ∙ by_hand.moment_misses in
+    let beyond = c.holds_moment-2.ensures ∙ by_hand.moment_misses in
     λ i. record { axis = y i; moment = (at i, beyond i) }

@@ -8,8 +8,8 @@ use Rattle.clauses.proofs.worked.worked_teeth.Goals as goal
 
 pub returns : goal.returns
 returns c =
-    let along = c.at-grain-along.ensures.value ∙ by_hand.along in
-    let across = c.at-grain-across.ensures.value ∙ by_hand.across in
+    let along = c.at_grain-along.ensures.value ∙ by_hand.along in
+    let across = c.at_grain-across.ensures.value ∙ by_hand.across in
     let n = c.lateral-n.ensures.value ∙ by_hand.n in
     let resistance = c.factored-resistance.ensures.value ∙ ap (λ n. factored n Standard SeasonedDry 100) n ∙ by_hand.resistance in
     let cap = c.capacity-capacity.ensures.value ∙ ap (λ r. capacity r 3800) resistance ∙ by_hand.cap in

@@ -7,5 +7,5 @@ pub returns : goal.returns
 returns c =
     record {
       word = search rules;
-      row = three (rest c.args.line.now) _ (rest c.numbers.new.self) c.in-ok-width.ensures.numbers;
+      row = three (rest c.args.line.now) _ (rest c.numbers.new.self) c.in_ok-width.ensures.numbers;
     }

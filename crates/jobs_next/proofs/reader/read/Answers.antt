@@ -20,6 +20,6 @@ loop-line-preserved c =
     let turn = c.in-Some.ensures.steps.0 in
     let said = rest c.new.result in
     let one : Step (from.number + 1) said (state from.reader) (state c.take.new.self) =
-    subst (λ n. Step n said (state from.reader) (state c.take.new.self)) c.new.ensures.number c.in-ok-take.ensures
+    subst (λ n. Step n said (state from.reader) (state c.take.new.self)) c.new.ensures.number c.in_ok-take.ensures
     in
     (step from.invariant.0 turn.2 c.new.ensures.said one, omega (arith, from.invariant.1, shorter (lines_rest from.line-iterator) c.in-Some.line.now next turn.0 turn.2))

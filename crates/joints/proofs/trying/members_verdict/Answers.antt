@@ -8,8 +8,8 @@ use Rattle.joints.specs.Checks.{member_clauses}
 use Rattle.joints.proofs.Verdicts.{clause_met, clause_missed, all_met}
 use Rattle.joints.proofs.trying.members_verdict.Goals as goal
 
-pub first-failing-requires : goal.first-failing-requires
-first-failing-requires c = record {
+pub first_failing-requires : goal.first_failing-requires
+first_failing-requires c = record {
   ready = All-weaker MemberWithin (λ m. TrialWithin c.args.trial.now × MemberWithin m) (λ m h. (c.requires.trial, h)) c.args.own.now c.requires.own;
   within = omega arith;
 }
@@ -20,7 +20,7 @@ returns-in-Some c =
 
 pub loop-clause-preserved : goal.loop-clause-preserved
 loop-clause-preserved c =
-    sym (clause_met (laid c.args.trial.now) c.args.own.now member_clauses c.loop-clause.clause-index Turning c.loop-clause-test.true (sym c.in-default.ensures)) ∙ c.loop-clause.invariant
+    sym (clause_met (laid c.args.trial.now) c.args.own.now member_clauses c.loop-clause.clause-index Turning c.loop-clause-test.true (sym c.in_default.ensures)) ∙ c.loop-clause.invariant
 
 pub returns : goal.returns
 returns c = sym (all_met (laid c.args.trial.now) c.args.own.now member_clauses c.loop-clause.clause-index c.loop-clause-test.false) ∙ c.loop-clause.invariant

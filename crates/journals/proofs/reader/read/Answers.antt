@@ -23,13 +23,13 @@ pub loop-line-preserved-in-Continue·-branch-3 : goal.loop-line-preserved-in-Con
 loop-line-preserved-in-Continue·-branch-3 c =
     let step = c.in-Some.ensures.steps.0 in
     let said = rest c.new.result in
-    let says : Says said c.in-Some-2.call = subst (λ o. MatchOption o (Blank said) (λ k. Says said k)) c.in-Some-2.is c.in-ok-call.ensures in
+    let says : Says said c.in-Some-2.call = subst (λ o. MatchOption o (Blank said) (λ k. Says said k)) c.in-Some-2.is c.in_ok-call.ensures in
     let read = entry c.loop-line.invariant.0 step.2 c.new.ensures.said says in
-    (subst (Reading c.args.text.now (c.loop-line.number + 1) (lines_rest c.next.new.self)) (sym c.in-ok-push.ensures.items) read, omega (arith, c.loop-line.invariant.1, shorter (lines_rest c.loop-line.line-iterator) c.in-Some.line.now (lines_rest c.next.new.self) step.0 step.2))
+    (subst (Reading c.args.text.now (c.loop-line.number + 1) (lines_rest c.next.new.self)) (sym c.in_ok-push.ensures.items) read, omega (arith, c.loop-line.invariant.1, shorter (lines_rest c.loop-line.line-iterator) c.in-Some.line.now (lines_rest c.next.new.self) step.0 step.2))
 
 pub loop-line-preserved : goal.loop-line-preserved
 loop-line-preserved c =
     let step = c.in-Some.ensures.steps.0 in
     let said = rest c.new.result in
-    let none : Blank said = none_said said c.in-ok-call.field-0 c.in-default.not-Some c.in-ok-call.ensures in
+    let none : Blank said = none_said said c.in_ok-call.field-0 c.in_default.not-Some c.in_ok-call.ensures in
     (blank c.loop-line.invariant.0 step.2 c.new.ensures.said none, omega (arith, c.loop-line.invariant.1, shorter (lines_rest c.loop-line.line-iterator) c.in-Some.line.now (lines_rest c.next.new.self) step.0 step.2))

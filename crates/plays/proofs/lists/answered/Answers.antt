@@ -3,14 +3,14 @@ use Rattle.std.proofs.lemmas.List.{take_all}
 use Rattle.plays.specs.Beside.{Beside}
 use Rattle.plays.proofs.Pairing.{beside_more}
 use Rattle.plays.proofs.lists.answered.Goals as goal
-use Rattle.plays.proofs.lists.answered.Goals.{then-index-answers+in-ok-push, else-index-answers}
+use Rattle.plays.proofs.lists.answered.Goals.{then-index-answers+in_ok-push, else-index-answers}
 
 pub loop-index-preserved : goal.loop-index-preserved
 loop-index-preserved c = λ within.
     elim c.if-index-answers.branch [
-      | then-index-answers+in-ok-push w ↦
+      | then-index-answers+in_ok-push w ↦
           beside_more c.args.entries.now c.args.answers.now c.loop-index.index _ w.index-answers-index.result (vec_items c.loop-index.all) (vec_items c.if-index-answers.all) _
-          c.loop-index-test.true w.if-index-answers.true refl w.index-answers-index.is (c.loop-index.invariant (omega arith)) (ap vec_items w.all-is ∙ w.in-ok-push.ensures.items)
+          c.loop-index-test.true w.if-index-answers.true refl w.index-answers-index.is (c.loop-index.invariant (omega arith)) (ap vec_items w.all-is ∙ w.in_ok-push.ensures.items)
       | else-index-answers w ↦ absurd (omega (arith, w.if-index-answers.false, within))
     ]
 

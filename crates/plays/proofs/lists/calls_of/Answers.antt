@@ -6,7 +6,7 @@ use Rattle.plays.proofs.lists.calls_of.Goals as goal
 
 pub loop-entry-preserved : goal.loop-entry-preserved
 loop-entry-preserved c =
-    calls_more c.args.entries.now c.loop-entry.entry-index (record { line = 0; call = Receive 0 0 }) (vec_items c.loop-entry.calls) (vec_items c.push.new.self) c.loop-entry-test.true c.loop-entry.invariant c.in-ok-push.ensures.items
+    calls_more c.args.entries.now c.loop-entry.entry-index (record { line = 0; call = Receive 0 0 }) (vec_items c.loop-entry.calls) (vec_items c.push.new.self) c.loop-entry-test.true c.loop-entry.invariant c.in_ok-push.ensures.items
 
 pub returns : goal.returns
 returns c = c.loop-entry.invariant ∙ ap (map (λ e. e.call)) (take_all c.loop-entry.entry-index c.args.entries.now c.loop-entry-test.false)

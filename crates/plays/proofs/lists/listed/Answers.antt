@@ -6,4 +6,4 @@ returns-then-slip-drawn c = past_listed c.args.all.now c.args.drawn.now c.args.s
 
 pub returns : goal.returns
 returns c =
-    some_listed c.args.all.now c.args.drawn.now c.args.slip _ c.has-ended.result c.has-ended-2.result c.requires c.if-slip-drawn.false c.has-ended.ensures c.if-has-ended.false c.has-ended-2.ensures
+    some_listed c.args.all.now c.args.drawn.now c.args.slip _ c.has_ended.result c.has_ended-2.result c.requires c.if-slip-drawn.false c.has_ended.ensures c.if-has_ended.false c.has_ended-2.ensures

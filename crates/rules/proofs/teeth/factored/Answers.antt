@@ -9,11 +9,11 @@ most : (c : After-service_factor-ksf) → c.args.n * 90 * c.duration_factor-kd.r
 most c =
     mul-le _ _ _ _ (mul-le _ _ _ _ (mul-le _ _ _ _ (mul-le _ _ 20000 90 c.requires.n (omega arith)) c.duration_factor-kd.ensures.bound) c.service_factor-ksf.ensures.bound) c.requires.factor
 
-pub overflow-mul-result-4 : goal.overflow-mul-result-4
-overflow-mul-result-4 c = omega (arith, most c)
+pub overflow_mul-result-4 : goal.overflow_mul-result-4
+overflow_mul-result-4 c = omega (arith, most c)
 
-pub overflow-cast-result-3 : goal.overflow-cast-result-3
-overflow-cast-result-3 c = omega (arith, most c)
+pub overflow_cast-result-3 : goal.overflow_cast-result-3
+overflow_cast-result-3 c = omega (arith, most c)
 
 pub returns : goal.returns
 unfolding factored

@@ -4,14 +4,14 @@ use Rattle.std.proofs.lemmas.List.{take_all}
 use Rattle.yard.specs.Hooks.{open_slips}
 use Rattle.yard.proofs.Hanging.{open_some}
 use Rattle.yard.proofs.hooks.open_slips.Goals as goal
-use Rattle.yard.proofs.hooks.open_slips.Goals.{in-Some+in-ok-push, in-default}
+use Rattle.yard.proofs.hooks.open_slips.Goals.{in-Some+in_ok-push, in_default}
 
 pub loop-hook-preserved : goal.loop-hook-preserved
 loop-hook-preserved c =
     let put : vec_items c.match-open.open ≡ vec_items c.loop-hook.open ++ option_to_list c.open.result =
     elim c.match-open.branch [
-      | in-Some+in-ok-push w ↦ ap vec_items w.open-is ∙ w.in-ok-push.ensures.items ∙ ap (λ o. vec_items c.loop-hook.open ++ option_to_list o) (sym w.in-Some.is)
-      | in-default w ↦ ap vec_items w.open-is ∙ sym (append-nil (vec_items c.loop-hook.open)) ∙ ap (λ o. vec_items c.loop-hook.open ++ option_to_list o) (sym w.in-default.is)
+      | in-Some+in_ok-push w ↦ ap vec_items w.open-is ∙ w.in_ok-push.ensures.items ∙ ap (λ o. vec_items c.loop-hook.open ++ option_to_list o) (sym w.in-Some.is)
+      | in_default w ↦ ap vec_items w.open-is ∙ sym (append-nil (vec_items c.loop-hook.open)) ∙ ap (λ o. vec_items c.loop-hook.open ++ option_to_list o) (sym w.in_default.is)
     ]
     in
     open_some c.args.rack.now c.loop-hook.hook _ (vec_items c.loop-hook.open) (vec_items c.match-open.open) c.open.result c.loop-hook-test.true c.open.ensures c.loop-hook.invariant put

@@ -6,4 +6,4 @@ pub returns-else-hook-len : goal.returns-else-hook-len
 returns-else-hook-len c =
     let rack = c.args.rack.now in
     let past : length (vec_items rack) ≤ c.args.hook = omega (arith, rack.ok.0) in
-    record { old = sym (get_or_past (vec_items rack) c.args.hook c.args.new past); rack = sym (set_past (vec_items rack) c.args.hook c.args.new past) }
+    record { old = sym (get_or_past (vec_items rack) c.args.hook c.args.new past); rack = sym (set_past (vec_items rack) c.args.hook c.args.new past); room = omega arith }

@@ -1,4 +1,4 @@
-use Rattle.std.proofs.Common.{List, [], ◌∷◌, map, vec_items, sym, refl, subst}
+use Rattle.std.proofs.Common.{List, [], ◌∷◌, map, vec_items, sym, refl, subst, arith}
 use Rattle.yard.specs.declared.replays.Answer.TheVariants as answer
 use Rattle.yard.specs.Counts.{told}
 use Rattle.yard.specs.Runs.{Event, receipt, telling}
@@ -15,7 +15,7 @@ returns-in-Receive g c =
     let does = subst (λ x. Does (map (means g.J.Joint.standing g.J.Joint.verdict) c.args.joints.now) (g.P.Supply.places yard.pile) (g.P.Supply.shows yard.pile) yard.stamp x before (answer.Received c.receive.result) made after) (sym c.in-Receive.is)
     (c.receive.result, (done.answer, refl, refl, refl))
     in
-    record { answer = (made, does); pile = done.pile; stamp = done.stamp }
+    record { answer = (made, does); pile = done.pile; stamp = done.stamp; room = omega arith }
 
 pub returns-in-Tell : goal.returns-in-Tell
 returns-in-Tell g c =
@@ -25,4 +25,4 @@ returns-in-Tell g c =
     let does = subst (λ x. Does (map (means g.J.Joint.standing g.J.Joint.verdict) c.args.joints.now) (g.P.Supply.places yard.pile) (g.P.Supply.shows yard.pile) yard.stamp x before (answer.Told c.tell.result) made before) (sym c.in-Tell.is)
     (c.tell.result, (c.tell.ensures, refl, refl, refl))
     in
-    record { answer = (made, does); pile = refl {a = yard.pile}; stamp = refl {a = yard.stamp} }
+    record { answer = (made, does); pile = refl {a = yard.pile}; stamp = refl {a = yard.stamp}; room = omega arith }

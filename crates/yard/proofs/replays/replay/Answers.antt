@@ -7,7 +7,7 @@ use Rattle.yard.specs.Runs.{Event}
 use Rattle.yard.specs.Replays.{Does, Means, State, means}
 use Rattle.yard.proofs.Replaying.{Worked, worked_more, worked_none, worked_replayed}
 use Rattle.yard.proofs.replays.replay.Goals as goal
-use Rattle.yard.proofs.replays.replay.Goals.{else-loop-call-test, then-loop-call-test+then-not-has-room, then-not-has-room-via-then-not-has-room, then-not-has-room-via-else-not-has-room+then-not-has-room-2}
+use Rattle.yard.proofs.replays.replay.Goals.{else-loop-call-test, then-loop-call-test+then-not-has_room, then-not-has_room-via-then-not-has_room, then-not-has_room-via-else-not-has_room+then-not-has_room-2}
 
 pub loop-call-init : goal.loop-call-init
 loop-call-init g c =
@@ -25,7 +25,7 @@ loop-call-preserved g c =
     let yard = c.loop-call.yard in
     let inv = c.loop-call.invariant in
     let joints : List Means = map (means g.J.Joint.standing g.J.Joint.verdict) c.args.joints.now in
-    let next : State = record { rack = vec_items c.has-room.new.items; counts = told yard.bins } in
+    let next : State = record { rack = vec_items c.has_room.new.items; counts = told yard.bins } in
     let after : State = record { rack = vec_items c.perform-answer.new.rack; counts = told c.perform-answer.new.yard.bins } in
     let call : Call = get_or c.args.calls.now c.loop-call.call-index (Receive 0 0) in
     let said = c.perform-answer.result in
@@ -34,10 +34,10 @@ loop-call-preserved g c =
     (subst (λ s. (es : List Event) × Does joints (g.P.Supply.places yard.pile) (g.P.Supply.shows yard.pile) s call next said es after) inv.3 c.perform-answer.ensures.answer)
     in
     let before : Worked joints (g.P.Supply.places made.pile) (g.P.Supply.shows made.pile) made.stamp (vec_items c.args.rack) c.args.calls.now (vec_items c.loop-call.answers) next.rack next.counts =
-    subst (λ r. Worked joints (g.P.Supply.places made.pile) (g.P.Supply.shows made.pile) made.stamp (vec_items c.args.rack) c.args.calls.now (vec_items c.loop-call.answers) r (told yard.bins)) (sym c.has-room.ensures.same) inv.1
+    subst (λ r. Worked joints (g.P.Supply.places made.pile) (g.P.Supply.shows made.pile) made.stamp (vec_items c.args.rack) c.args.calls.now (vec_items c.loop-call.answers) r (told yard.bins)) (sym c.has_room.ensures.same) inv.1
     in
     let added : vec_items c.add.new.items ≡ vec_items c.loop-call.answers ++ said ∷ [] =
-    c.add.ensures ∙ ap (λ l. l ++ said ∷ []) c.has-room-else-not-has-room.ensures.same
+    c.add.ensures.items ∙ ap (λ l. l ++ said ∷ []) c.has_room-else-not-has_room.ensures.same
     in
     let more = worked_more joints (g.P.Supply.places made.pile) (g.P.Supply.shows made.pile) made.stamp (vec_items c.args.rack) c.args.calls.now (vec_items c.loop-call.answers) (vec_items c.add.new.items) c.loop-call.call-index (Receive 0 0) said next after
     inv.0 c.loop-call-test.true added before now-done
@@ -52,15 +52,15 @@ returns g c =
     let rack-same : vec_items c.loop-call-test.rack ≡ vec_items c.loop-call.rack =
     elim c.loop-call-test.branch [
       | else-loop-call-test w ↦ ap vec_items w.rack-is
-      | then-loop-call-test+then-not-has-room w ↦ ap vec_items w.rack-is ∙ w.has-room.ensures.same
+      | then-loop-call-test+then-not-has_room w ↦ ap vec_items w.rack-is ∙ w.has_room.ensures.same
     ]
     in
     let answers-same : vec_items c.loop-call-test.answers ≡ vec_items c.loop-call.answers =
     elim c.loop-call-test.branch [
       | else-loop-call-test w ↦ ap vec_items w.answers-is
-      | then-loop-call-test+then-not-has-room w ↦ ap vec_items w.answers-is ∙ (elim w.then-not-has-room.branch [
-        | then-not-has-room-via-then-not-has-room v ↦ ap vec_items v.answers-is
-        | then-not-has-room-via-else-not-has-room+then-not-has-room-2 v ↦ ap vec_items v.answers-is ∙ v.has-room-else-not-has-room.ensures.same
+      | then-loop-call-test+then-not-has_room w ↦ ap vec_items w.answers-is ∙ (elim w.then-not-has_room.branch [
+        | then-not-has_room-via-then-not-has_room v ↦ ap vec_items v.answers-is
+        | then-not-has_room-via-else-not-has_room+then-not-has_room-2 v ↦ ap vec_items v.answers-is ∙ v.has_room-else-not-has_room.ensures.same
       ])
     ]
     in

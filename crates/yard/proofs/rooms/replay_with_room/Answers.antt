@@ -5,9 +5,10 @@ use Rattle.yard.specs.declared.replays.Call.TheVariants.{Receive}
 use Rattle.yard.specs.Counts.{told}
 use Rattle.yard.specs.Runs.{Event}
 use Rattle.yard.specs.Replays.{Does, Means, State, means}
-use Rattle.yard.proofs.Replaying.{Worked, does_one, worked_more, worked_none, worked_replayed}
+use Rattle.yard.proofs.Taken.{does_one}
+use Rattle.yard.proofs.Replaying.{Worked, worked_more, worked_none, worked_replayed}
 use Rattle.yard.proofs.rooms.replay_with_room.Goals as goal
-use Rattle.yard.proofs.rooms.replay_with_room.Goals.{else-loop-call-test, then-loop-call-test+then-is-full, then-is-full-via-then-is-full, then-is-full-via-else-is-full+then-is-full-2}
+use Rattle.yard.proofs.rooms.replay_with_room.Goals.{else-loop-call-test, then-loop-call-test+then-is_full, then-is_full-via-then-is_full, then-is_full-via-else-is_full+then-is_full-2}
 
 pub loop-call-init : goal.loop-call-init
 loop-call-init g c =
@@ -18,7 +19,7 @@ loop-call-init g c =
       refl {a = yard.pile},
       refl {a = yard.stamp},
       omega arith,
-      refl {a = vec_capacity c.args.rack},
+      omega arith,
       refl {a = vec_capacity c.clear.new.self},
     )
 
@@ -36,8 +37,8 @@ loop-call-preserved g c =
     subst (λ p. (es : List Event) × Does joints (g.P.Supply.places p) (g.P.Supply.shows p) made.stamp call next said es after) inv.2
     (subst (λ s. (es : List Event) × Does joints (g.P.Supply.places yard.pile) (g.P.Supply.shows yard.pile) s call next said es after) inv.3 c.perform-answer.ensures.answer)
     in
-    let more = worked_more joints (g.P.Supply.places made.pile) (g.P.Supply.shows made.pile) made.stamp (vec_items c.args.rack) c.args.calls.now (vec_items c.loop-call.answers) (vec_items c.push-reserved.new.self) c.loop-call.call-index (Receive 0 0) said next after
-    inv.0 c.loop-call-test.true c.push-reserved.ensures.items inv.1 now-done
+    let more = worked_more joints (g.P.Supply.places made.pile) (g.P.Supply.shows made.pile) made.stamp (vec_items c.args.rack) c.args.calls.now (vec_items c.loop-call.answers) (vec_items c.push_reserved.new.self) c.loop-call.call-index (Receive 0 0) said next after
+    inv.0 c.loop-call-test.true c.push_reserved.ensures.items inv.1 now-done
     in
     let one : length after.rack ≤ length next.rack + 1 =
     does_one joints (g.P.Supply.places made.pile) (g.P.Supply.shows made.pile) made.stamp call next said now-done.0 after now-done.1
@@ -47,8 +48,8 @@ loop-call-preserved g c =
       c.perform-answer.ensures.pile ∙ inv.2,
       c.perform-answer.ensures.stamp ∙ inv.3,
       omega (arith, inv.4),
-      c.perform-answer.ensures.room ∙ inv.5,
-      c.push-reserved.ensures.capacity ∙ inv.6,
+      omega (arith, inv.5, c.perform-answer.ensures.room),
+      c.push_reserved.ensures.capacity ∙ inv.6,
     )
 
 pub returns : goal.returns
@@ -65,11 +66,11 @@ returns g c =
           let every : vec_len c.loop-call.answers ≡ length c.args.calls.now =
           elim c.loop-call-test.branch [
             | else-loop-call-test w ↦ omega (arith, inv.0, w.loop-call-test.false, c.loop-call.auto.call-index-end, c.loop-call.answers.ok.0)
-            | then-loop-call-test+then-is-full w ↦ elim w.then-is-full.branch [
-              | then-is-full-via-then-is-full v ↦
-                  omega (arith, leb-true (vec_capacity c.loop-call.rack) (vec_len c.loop-call.rack) (sym w.is-full.ensures ∙ v.if-is-full.true), w.loop-call-test.true, inv.4, inv.5, room-rack, c.loop-call.rack.ok.0, c.args.rack.ok.0)
-              | then-is-full-via-else-is-full+then-is-full-2 v ↦
-                  omega (arith, leb-true (vec_capacity c.loop-call.answers) (vec_len c.loop-call.answers) (sym v.is-full-else-is-full.ensures ∙ v.if-is-full-2.true), w.loop-call-test.true, inv.0, inv.6, c.clear.ensures.capacity, room-answers, c.loop-call.answers.ok.0)
+            | then-loop-call-test+then-is_full w ↦ elim w.then-is_full.branch [
+              | then-is_full-via-then-is_full v ↦
+                  omega (arith, leb-true (vec_capacity c.loop-call.rack) (vec_len c.loop-call.rack) (sym w.is_full.ensures ∙ v.if-is_full.true), w.loop-call-test.true, inv.4, inv.5, room-rack, c.loop-call.rack.ok.0, c.args.rack.ok.0)
+              | then-is_full-via-else-is_full+then-is_full-2 v ↦
+                  omega (arith, leb-true (vec_capacity c.loop-call.answers) (vec_len c.loop-call.answers) (sym v.is_full-else-is_full.ensures ∙ v.if-is_full-2.true), w.loop-call-test.true, inv.0, inv.6, c.clear.ensures.capacity, room-answers, c.loop-call.answers.ok.0)
             ]
           ]
           in
@@ -78,10 +79,10 @@ returns g c =
           elim c.loop-call-test.branch [
             | else-loop-call-test w ↦
                 absurd (eqb-false c.len.result (length c.args.calls.now) short (omega (arith, inv.0, w.loop-call-test.false, c.loop-call.auto.call-index-end, c.loop-call.answers.ok.0, c.len.ensures)))
-            | then-loop-call-test+then-is-full w ↦ elim w.then-is-full.branch [
-              | then-is-full-via-then-is-full v ↦ inl (omega (arith, leb-true (vec_capacity c.loop-call.rack) (vec_len c.loop-call.rack) (sym w.is-full.ensures ∙ v.if-is-full.true), inv.5))
-              | then-is-full-via-else-is-full+then-is-full-2 v ↦
-                  inr (omega (arith, leb-true (vec_capacity c.loop-call.answers) (vec_len c.loop-call.answers) (sym v.is-full-else-is-full.ensures ∙ v.if-is-full-2.true), inv.6, c.clear.ensures.capacity))
+            | then-loop-call-test+then-is_full w ↦ elim w.then-is_full.branch [
+              | then-is_full-via-then-is_full v ↦ inl (omega (arith, leb-true (vec_capacity c.loop-call.rack) (vec_len c.loop-call.rack) (sym w.is_full.ensures ∙ v.if-is_full.true), inv.5))
+              | then-is_full-via-else-is_full+then-is_full-2 v ↦
+                  inr (omega (arith, leb-true (vec_capacity c.loop-call.answers) (vec_len c.loop-call.answers) (sym v.is_full-else-is_full.ensures ∙ v.if-is_full-2.true), inv.6, c.clear.ensures.capacity))
             ]
           ];
       pile = inv.2 ∙ made.pile;

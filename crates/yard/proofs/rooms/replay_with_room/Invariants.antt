@@ -13,5 +13,5 @@ invariant-loop-call g l =
     × (l.yard.pile ≡ l.initial.yard.pile)
     × (l.yard.stamp ≡ l.initial.yard.stamp)
     × (length (vec_items l.rack) ≤ length (vec_items l.initial.rack) + l.call-index)
-    × (vec_capacity l.rack ≡ vec_capacity l.initial.rack)
+    × (vec_capacity l.initial.rack ≤ vec_capacity l.rack)
     × (vec_capacity l.answers ≡ vec_capacity l.initial.answers)

@@ -20,7 +20,7 @@ tried-verdict-requires c =
     let given = lawful (splice_drawing c.args.self.now) c.requires in
     record {
       factor = omega arith;
-      cards = subst (All CardWithin) (sym c.read-cards-cards.ensures) given.carded;
+      cards = subst (All CardWithin) (sym c.read_cards-cards.ensures) given.carded;
       own = subst (All MemberWithin) (sym c.own-own.ensures) given.ranged;
       few = subst (λ ms. length ms ≤ 6) (sym c.own-own.ensures) (few_paired c.args.self.now.splice.sheet _ _ given.spans);
     }
@@ -47,11 +47,11 @@ returns-then-not-passes c =
     let j = c.args.self.now in
     let p = size c.args.plate in
     let t = c.args.turning in
-    let is : c.tried-verdict.result ≡ first_missed (base j p t) (splice_drawing j).members = c.tried-verdict.ensures ∙ (λ i. first_missed (checks j.splice.sheet.conditions 100 (card_of (c.read-cards-cards.ensures i) p.family) p t) (c.own-own.ensures i)) in
+    let is : c.tried-verdict.result ≡ first_missed (base j p t) (splice_drawing j).members = c.tried-verdict.ensures ∙ (λ i. first_missed (checks j.splice.sheet.conditions 100 (card_of (c.read_cards-cards.ensures i) p.family) p t) (c.own-own.ensures i)) in
     ended j p t _ is (sym c.if-not-passes.ensures)
 
-pub splice-clauses-requires : goal.splice-clauses-requires
-splice-clauses-requires c =
+pub splice_clauses-requires : goal.splice_clauses-requires
+splice_clauses-requires c =
     let given = lawful (splice_drawing c.args.self.now) c.requires in
     let right = given.numbered in
     record {
@@ -59,7 +59,7 @@ splice-clauses-requires c =
       wood = (grind (arith, nat_tests), grind (arith, nat_tests));
       trial = record {
         factor = omega arith;
-        card = card_found CardWithin c.read-cards-cards.result.now _ _ (subst (All CardWithin) (sym c.read-cards-cards.ensures) given.carded) (sym c.in-Some.ensures);
+        card = card_found CardWithin c.read_cards-cards.result.now _ _ (subst (All CardWithin) (sym c.read_cards-cards.ensures) given.carded) (sym c.in-Some.ensures);
       };
       own = subst (All MemberWithin) (sym c.own-own.ensures) given.ranged;
     }
@@ -70,8 +70,8 @@ returns c =
     let j = c.args.self.now in
     let p = size c.args.plate in
     let t = c.args.turning in
-    let is : c.tried-verdict.result ≡ first_missed (base j p t) (splice_drawing j).members = c.tried-verdict.ensures ∙ (λ i. first_missed (checks j.splice.sheet.conditions 100 (card_of (c.read-cards-cards.ensures i) p.family) p t) (c.own-own.ensures i)) in
-    let has : splice_card j p ≡ Some c.in-Some.card = (λ i. card_of (sym c.read-cards-cards.ensures i) (sym c.family.ensures i)) ∙ sym c.in-Some.ensures in
+    let is : c.tried-verdict.result ≡ first_missed (base j p t) (splice_drawing j).members = c.tried-verdict.ensures ∙ (λ i. first_missed (checks j.splice.sheet.conditions 100 (card_of (c.read_cards-cards.ensures i) p.family) p t) (c.own-own.ensures i)) in
+    let has : splice_card j p ≡ Some c.in-Some.card = (λ i. card_of (sym c.read_cards-cards.ensures i) (sym c.family.ensures i)) ∙ sym c.in-Some.ensures in
     let ms = (splice_drawing j).members in
     let next : c.splice_clauses.result ≡ first_missed (rest j p t) ms =
     c.splice_clauses.ensures ∙ (λ i. first_missed (splice_only j.splice (Some c.in-Some.card) p t (c.own-own.ensures i)) (c.own-own.ensures i)) ∙ (λ i. first_missed (splice_only j.splice (sym has i) p t ms) ms)

@@ -10,7 +10,7 @@ loop-i-init g c = (refl, refl, length-replicate g.row.N 0)
 pub loop-i-preserved : goal.loop-i-preserved
 loop-i-preserved g c =
     let at = c.loop-i in (
-      longer (rest c.args.self.now) (rest at.self) (rest c.word.new.self) at.values at.i c.in-ok-values.field-0 (omega (arith, at.invariant.2)) at.invariant.0 (_, c.in-Some.ensures.word, c.in-ok-values.ensures),
+      longer (rest c.args.self.now) (rest at.self) (rest c.word.new.self) at.values at.i c.in_ok-values.field-0 (omega (arith, at.invariant.2)) at.invariant.0 (_, c.in-Some.ensures.word, c.in_ok-values.ensures),
       c.word.ensures.number ∙ at.invariant.1,
       simp length-set at.invariant.2,
     )

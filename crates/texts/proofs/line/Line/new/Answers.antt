@@ -17,12 +17,12 @@ before text i j h =
 pub returns : goal.returns
 returns c =
     let text = c.args.text.now in
-    let cut : Said text c.match-split-once.said.now =
-    elim c.match-split-once.branch [
+    let cut : Said text c.match-split_once.said.now =
+    elim c.match-split_once.branch [
       | in-Some w ↦
           let at = w.in-Some.ensures.cases in
           subst (Said text) (sym at.3 ∙ sym (ap (λ s. s.now) w.said-is)) (before text at.0 at.1 at.2)
       | in-None w ↦ subst (Said text) (sym (ap (λ s. s.now) w.said-is)) (whole text w.in-None.ensures.cases)
     ]
     in
-    record { number = refl {a = c.args.number}; said = subst (Said text) (sym c.split-whitespace.ensures.rest) cut }
+    record { number = refl {a = c.args.number}; said = subst (Said text) (sym c.split_whitespace.ensures.rest) cut }

@@ -11,7 +11,7 @@ loop-i-init g c = (refl, refl, length-replicate g.row.N 0)
 pub loop-i-preserved : goal.loop-i-preserved
 loop-i-preserved g c =
     let at = c.loop-i in (
-      longer (rest c.args.self.now) (rest at.self) (rest c.value.new.self) at.numbers at.i c.in-ok-numbers.field-0 (omega (arith, at.invariant.2)) at.invariant.0 c.in-ok-numbers.ensures.value,
+      longer (rest c.args.self.now) (rest at.self) (rest c.value.new.self) at.numbers at.i c.in_ok-numbers.field-0 (omega (arith, at.invariant.2)) at.invariant.0 c.in_ok-numbers.ensures.value,
       c.value.ensures.number ∙ at.invariant.1,
       simp length-set at.invariant.2,
     )

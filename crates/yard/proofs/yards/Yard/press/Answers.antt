@@ -7,12 +7,12 @@ pub press-requires : goal.press-requires
 press-requires g c =
     let yard = c.args.self.now in
     slip_out c.args.slip.numbers c.numbers.result c.end-place.result yard.stamp yard.bins c.index-bins-place.result
-    yard.full c.in-default.ensures c.numbers.ensures c.end-place.ensures
+    yard.full c.in_default.ensures c.numbers.ensures c.end-place.ensures
 
 pub returns : goal.returns
 returns g c =
     let yard = c.args.self.now in
     let answer = slip_settled c.args.slip c.args.slip.numbers c.numbers.result c.end-place.result yard.stamp yard.bins pressed_off c.index-bins-place.result c.press.new.bin
-    yard.full c.in-default.ensures c.numbers.ensures c.end-place.ensures c.press.ensures
+    yard.full c.in_default.ensures c.numbers.ensures c.end-place.ensures c.press.ensures
     in
     record { answer = answer; pile = refl {a = yard.pile}; stamp = refl {a = yard.stamp} }

@@ -41,39 +41,3 @@ does_one joints places shows stamp (call.HandBack i) before a made after h = on_
 does_one joints places shows stamp (call.Press i) before a made after h = on_hook_one stamp Press i before a made after h
 does_one joints places shows stamp (call.Void i) before a made after h = on_hook_one stamp Void i before a made after h
 does_one joints places shows stamp (call.Tell k) before a made after h = omega (arith, ap (λ s. length s.rack) h.1.3)
-
-pub worked_none : (joints : List Means) (places : ℕ) (shows : ℕ → Option Size) (stamp : ℕ) (brought : List Hook) (calls : List Call) (answers : List Answer) (counts : List Count)
-    → answers ≡ [] → counts ≡ replicate 256 empty → Worked joints places shows stamp brought calls answers brought counts
-worked_none joints places shows stamp brought calls answers counts none start =
-    subst (λ x. Worked joints places shows stamp brought calls x brought counts) (sym none)
-    (subst (λ x. Worked joints places shows stamp brought calls [] brought x) (sym start) ([], (refl, refl)))
-
-pub worked_more : (joints : List Means) (places : ℕ) (shows : ℕ → Option Size) (stamp : ℕ) (brought : List Hook) (calls : List Call) (old new : List Answer) (i : ℕ) (d : Call) (a : Answer) (next after : State)
-    → length old ≡ i → i < length calls → new ≡ old ++ a ∷ []
-    → Worked joints places shows stamp brought calls old next.rack next.counts → (made : List Event) × Does joints places shows stamp (get_or calls i d) next a made after
-    → (length new ≡ i + 1) × Worked joints places shows stamp brought calls new after.rack after.counts
-worked_more joints places shows stamp brought calls old new i d a next after len lt is w does =
-    let start : State = record { rack = brought; counts = replicate 256 empty } in
-    let count : length new ≡ i + 1 = ap length is ∙ length-append old (a ∷ []) ∙ ap (λ n. n + 1) len in
-    let more : take (length new) calls ≡ take (length old) calls ++ get_or calls i d ∷ [] =
-    ap (λ n. take n calls) count ∙ take_more calls i d lt ∙ ap (λ n. take n calls ++ get_or calls i d ∷ []) (sym len)
-    in
-    let all = replays_more joints places shows stamp (take (length old) calls) start old w.0 next (get_or calls i d) a does.0 after w.1 does.1 in (
-      count,
-      (
-        w.0 ++ does.0,
-        subst (λ cs. Replays joints places shows stamp cs start new (w.0 ++ does.0) after) (sym more)
-            (subst (λ l. Replays joints places shows stamp (take (length old) calls ++ get_or calls i d ∷ []) start l (w.0 ++ does.0) after) (sym is) all),
-      ),
-    )
-
-pub worked_replayed : (joints : List Means) (places : ℕ) (shows : ℕ → Option Size) (stamp : ℕ) (brought : List Hook) (calls : List Call) (answers : List Answer) (rack : List Hook) (counts : List Count)
-    → Worked joints places shows stamp brought calls answers rack counts → Replayed joints places shows stamp brought calls answers rack counts
-worked_replayed joints places shows stamp brought calls answers rack counts w =
-    let start : State = record { rack = brought; counts = replicate 256 empty } in
-    let end : State = record { rack = rack; counts = counts } in
-    record {
-      events = w.0;
-      done = w.1;
-      stands = the_law places shows stamp w.0 counts (replays_ran joints places shows stamp (take (length answers) calls) start answers w.0 end w.1);
-    }
