@@ -26,7 +26,7 @@ pub fn account<J: Joint, S: Supply>(
     joint: &J,
     supply: &S,
 ) -> Result<Vec<ExplainRow>, NoAccount>
-    ensures { MatchResult result (λ v. AllRows (standing joint.now) (verdict joint.now) (places supply.now) (shows supply.now) v.items) (NoRows (standing joint.now)) }
+    ensures { MatchResult result (λ v. AllRows (J.standing joint.now) (J.verdict joint.now) (S.places supply.now) (S.shows supply.now) v.items) (NoRows (J.standing joint.now)) }
 {
     let room = 2 * (supply.places() as usize);
     let mut memory = match Vec::from_elem(heap, UNWRITTEN, room) {

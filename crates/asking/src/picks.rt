@@ -17,8 +17,8 @@ pub struct Picked {
 
 // What is chosen, with the plate that the supply shows at its place.
 pub fn pick<J: Joint, S: Supply>(joint: &J, supply: &S) -> Result<Picked, Refusal>
-    ensures chosen { Chosen (standing joint.now) (verdict joint.now) (places supply.now) (shows supply.now) (as_choice result) }
-    ensures shown { Shown (shows supply.now) result }
+    ensures chosen { Chosen (J.standing joint.now) (J.verdict joint.now) (S.places supply.now) (S.shows supply.now) (as_choice result) }
+    ensures shown { Shown (S.shows supply.now) result }
 {
     let choice = choose(joint, supply)?;
     let (place, turning) = choice.candidate;

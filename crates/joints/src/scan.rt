@@ -16,9 +16,9 @@ pub trait Test<T> {
 
 // The position of the first item that fails the test, counted from `start`.
 pub fn first_failing<T, Q: Test<T>>(test: &Q, start: usize, items: &[T]) -> Option<usize>
-    requires ready { All (ready test.now) items.now }
+    requires ready { All (Q.ready test.now) items.now }
     requires within { start + length items.now < 2 ^ 64 }
-    ensures { result ≡ first_failing (holds test.now) start items.now }
+    ensures { result ≡ first_failing (Q.holds test.now) start items.now }
 {
     for (i, item) in items.iter().enumerate() {
         if !test.holds(item) {
