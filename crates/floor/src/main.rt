@@ -3,17 +3,20 @@
 
 use floors::{Failure, Order, run};
 use std::env;
+use std::process::ExitCode;
 use texts::Value;
 
 // The stamp of a yard for which none is given.
 const STAMP: u32 = 1;
 
-fn main(rt: HostRuntime) -> Result<(), Failure> {
-    let done = start(&rt);
-    if let Err(failure) = &done {
-        let _ = eprintln!(rt; "{failure}");
+fn main(rt: HostRuntime) -> ExitCode {
+    match start(&rt) {
+        Ok(()) => ExitCode::SUCCESS,
+        Err(failure) => {
+            let _ = eprintln!(rt; "{failure}");
+            ExitCode::FAILURE
+        }
     }
-    done
 }
 
 // The arguments are the job, the journal and, if it is not 1, the stamp.

@@ -1,8 +1,12 @@
 // Answers many random joints; tools/oracle.py made the text and the expected answers.
 #![tactic(auto)]
 
-use answers_next::{Command, Failure, Source, answer};
+use answers_next::{Command, Source, answer};
+use std::process::ExitCode;
 
-fn main(rt: HostRuntime) -> Result<(), Failure> {
-    answer(&rt, Command::Choose, Source::StandardInput)
+fn main(rt: HostRuntime) -> ExitCode {
+    match answer(&rt, Command::Choose, Source::StandardInput) {
+        Ok(()) => ExitCode::SUCCESS,
+        Err(_) => ExitCode::FAILURE,
+    }
 }
