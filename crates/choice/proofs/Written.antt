@@ -1,5 +1,5 @@
 -- Rows written over a list, one after another.
-use Rattle.std.proofs.Common.{◌≡◌, ℕ, ◌+◌, ◌<◌, ◌≤◌, List, [], ◌∷◌, ◌++◌, length, take, drop, set, sym, refl, ap, ◌∙◌, add-zero, add_assoc, add-one, arith}
+use Rattle.std.proofs.Common.{◌≡◌, ℕ, ◌+◌, ◌<◌, ◌≤◌, List, [], ◌∷◌, ◌++◌, length, set, sym, refl, ap, ◌∙◌, add-zero, add_assoc, add-one, arith}
 use lib.Seq.{paste}
 use Rattle.std.proofs.lemmas.List.{length-append, set_split, take-append-drop}
 use Rattle.std.proofs.lemmas.List.Edits.{paste_all, paste-paste, length-paste}

@@ -1,5 +1,5 @@
 -- The first of some members.
-use Rattle.std.proofs.Common.{◌≡◌, ℕ, Bool, true, false, eqb, List, [], ◌∷◌, length, get_or, refl, arith}
+use Rattle.std.proofs.Common.{◌≡◌, ℕ, Bool, false, eqb, List, [], ◌∷◌, length, get_or, refl, arith}
 use Rattle.std.specs.List.{AllByRecursion as All}
 use Rattle.rules.specs.declared.terms.Member.{Member}
 use Rattle.joints.specs.Splices.{at_first}

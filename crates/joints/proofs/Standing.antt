@@ -1,8 +1,6 @@
 -- What a standing means.
-use Rattle.std.proofs.Common.{◌≡◌, ℕ, ◌+◌, ◌≤◌, Bool, true, false, cond, List, length, take, drop, Some, None, Ok, Err, Option, Result, refl, subst, arith}
-use Rattle.rules.specs.declared.terms.Card.{Card}
+use Rattle.std.proofs.Common.{◌≡◌, ℕ, ◌≤◌, Bool, true, false, cond, List, length, drop, Some, None, Ok, Err, Option, Result, refl, subst, arith}
 use Rattle.rules.specs.declared.terms.Member.{Member}
-use Rattle.joints.specs.Scan.{first_failing}
 use Rattle.joints.specs.Grounds.{member_ranged, card_ranged, drawn, unless_at, numbers_stand, Drawing, stands, Stands}
 use Rattle.plates.specs.Refusals.{Grounded}
 use Rattle.plates.specs.declared.refusals.Refusal.{Refusal}

@@ -1,5 +1,5 @@
 -- The steps of trying a plate, and what its verdict means.
-use Rattle.std.proofs.Common.{◌≡◌, ℕ, zero, suc, ◌+◌, ◌<◌, ◌≤◌, Bool, true, false, cond, List, [], ◌∷◌, ◌++◌, length, get_or, drop, Some, None, Option, sym, refl, ap, ◌∙◌, subst, le_of_suc-le-suc, not-suc-le-zero, arith}
+use Rattle.std.proofs.Common.{◌≡◌, ℕ, zero, suc, ◌+◌, ◌<◌, ◌≤◌, Bool, true, false, cond, List, [], ◌∷◌, ◌++◌, length, get_or, drop, Some, None, Option, refl, ap, ◌∙◌, le_of_suc-le-suc, not-suc-le-zero, arith}
 use Rattle.rules.specs.declared.terms.Card.{Card}
 use Rattle.plates.specs.Verdicts.{passes}
 use Rattle.plates.specs.declared.verdicts.Clause.{Clause}
@@ -9,7 +9,6 @@ use Rattle.clauses.specs.Clauses.{Laid, meets}
 use Rattle.rules.specs.declared.terms.Member.{Member}
 use Rattle.std.proofs.lemmas.List.{at_drop_more, at_drop_all}
 use Rattle.joints.specs.Scan.{first_failing}
-use Rattle.std.specs.List.{AllByRecursion as All}
 use Rattle.joints.specs.Verdict.{Check, whole, each, Met, Missed, MissesFirst, Judges, missed_at, first_missed}
 use Rattle.joints.proofs.Scanning.{Means, means}
 use Rattle.joints.specs.Checks.{card_of, each_of}

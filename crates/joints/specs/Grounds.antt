@@ -1,5 +1,5 @@
 -- The grounds on which a joint is turned away, in their order.
-use Rattle.std.specs.Prelude.{◌≡◌, ℕ, ◌+◌, Bool, true, false, cond, ◌&&◌, ◌||◌, List, length, take, drop, pos, negsuc, Some, None, Ok, Err, Option, Result, ◌==◌, int_le, int_lt, nat_le, slice_index}
+use Rattle.std.specs.Prelude.{◌≡◌, ℕ, ◌+◌, Bool, true, false, cond, ◌&&◌, ◌||◌, List, take, drop, pos, negsuc, Some, None, Ok, Err, Option, Result, ◌==◌, int_le, int_lt, nat_le, slice_index}
 use Rattle.std.specs.List.{AllByRecursion as All}
 use Rattle.plates.specs.declared.refusals.Refusal.{Refusal}
 use Rattle.plates.specs.declared.refusals.Refusal.TheVariants.{SheetNumber, MemberSpan, MemberNumber, CardNumber, EmptyField, NoPlace, BadReceipt, BookFull, NothingFits, OtherStamp, NoneOut}

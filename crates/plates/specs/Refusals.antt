@@ -1,5 +1,5 @@
 -- What each refusal carries: its number, the thing at fault and its position.
-use Rattle.std.specs.Prelude.{◌≡◌, ℕ, ◌≤◌, Ok, Err, Result}
+use Rattle.std.specs.Prelude.{ℕ, ◌≤◌, Ok, Err, Result}
 use Rattle.plates.specs.declared.refusals.Refusal.{Refusal}
 use Rattle.plates.specs.declared.refusals.Refusal.TheVariants.{SheetNumber, MemberSpan, MemberNumber, CardNumber, EmptyField, NoPlace, BadReceipt, BookFull, NothingFits, OtherStamp, NoneOut}
 use Rattle.plates.specs.declared.refusals.Thing.{Thing}

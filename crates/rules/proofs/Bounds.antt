@@ -1,5 +1,5 @@
 -- Bounds of products, sums of products and quotients.
-use Rattle.std.proofs.Common.{◌≡◌, ℕ, ◌+◌, ◌*◌, ◌/◌, ◌<◌, ◌≤◌, sym, ap, ◌∙◌, subst, mul-le-mul_right, mul_assoc, mul_comm, mul-le-mul_left, mul-add, mul_left_comm, arith}
+use Rattle.std.proofs.Common.{◌≡◌, ℕ, ◌+◌, ◌*◌, ◌/◌, ◌<◌, ◌≤◌, sym, ap, ◌∙◌, subst, mul-le-mul_right, mul_assoc, mul_comm, mul-add, mul_left_comm, arith}
 use native.Mathlib.Nat.{div-le_of_le-mul}
 
 -- a mean of two values up to m, weighted by x and y, is up to m

@@ -1,5 +1,5 @@
 -- The moment factor of a heel joint, in hundredths, from its slope.
-use Rattle.std.specs.Prelude.{ℕ, ◌+◌, ◌-◌, ◌*◌, ◌/◌, ◌<◌, ◌≤◌, min, max, cond, Some, None, Option, nat_le, nat_lt}
+use Rattle.std.specs.Prelude.{ℕ, ◌+◌, ◌-◌, ◌*◌, ◌/◌, ◌≤◌, min, max, cond, Some, None, Option, nat_le, nat_lt}
 use Rattle.rules.specs.declared.heels.FactorRule.{FactorRule}
 use Rattle.rules.specs.declared.heels.FactorRule.TheVariants.{Table, Formula}
 

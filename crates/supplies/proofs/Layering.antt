@@ -4,7 +4,7 @@ use Rattle.std.proofs.lemmas.List.{at_drop_more, at_drop_all}
 use Rattle.std.proofs.lemmas.Bool.{cond_both}
 use Rattle.plates.specs.Size.{Size}
 use Rattle.supplies.specs.Layers.{hides, seen, through, layered_shows, layer_shows, LayerLaws, struck_places}
-use Rattle.supplies.specs.Limits.{pressable, pressed}
+use Rattle.supplies.specs.Limits.{pressable}
 use Rattle.supplies.specs.Shown.{Exists}
 use Rattle.supplies.specs.Strikes.{listed}
 use Rattle.supplies.specs.declared.layered.Layer.{Layer}

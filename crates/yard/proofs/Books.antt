@@ -1,20 +1,19 @@
 -- The law of the books.
-use Rattle.std.proofs.Common.{◌≡◌, ℕ, ◌+◌, ◌<◌, ◌≤◌, true, false, cond, List, length, replicate, Some, Ok, Err, Option, Result, sym, refl, ap, ◌∙◌, subst, inl, inr, arith}
+use Rattle.std.proofs.Common.{◌≡◌, ℕ, ◌+◌, ◌<◌, true, false, List, length, replicate, Ok, Err, Option, Result, sym, ap, ◌∙◌, subst, inl, inr, arith}
 use Rattle.std.proofs.lemmas.List.{get_or_past, get_or-replicate, length-replicate}
 use Rattle.std.proofs.lemmas.Bool.{cases_lt}
 use Rattle.std.proofs.lemmas.Bool.Decides.{nat_tests}
-use Rattle.plates.specs.Size.{Size, area}
+use Rattle.plates.specs.Size.{Size}
 use Rattle.plates.specs.declared.refusals.Refusal.{Refusal}
-use Rattle.plates.specs.declared.refusals.Refusal.TheVariants.{NothingFits}
 use Rattle.plates.specs.declared.turnings.Turning.{Turning}
 use Rattle.plates.specs.declared.verdicts.Verdict.{Verdict}
 use Rattle.choice.specs.Choosing.{Fits}
 use Rattle.yard.specs.declared.bins.Bin.{Bin}
 use Rattle.yard.specs.declared.slips.DrawnSlip.{DrawnSlip}
-use Rattle.yard.specs.Counts.{Count, counted, empty, at}
+use Rattle.yard.specs.Counts.{Count, empty, at}
 use Rattle.yard.specs.Calls.{Drew, Slipped, Told, has_place, in_yard}
 use Rattle.yard.specs.Runs.{Event, Ran, received, drawn, handed_back, pressed}
-use Rattle.yard.specs.Law.{Balanced, Law, LeastOnHand, NextDrawing, NonePasses, Passing, Stands}
+use Rattle.yard.specs.Law.{Balanced, Law, LeastOnHand, NextDrawing, NonePasses, Passing}
 use Rattle.yard.proofs.Moves.{run_kept}
 use Rattle.yard.proofs.Tables.{in_yard_held}
 

@@ -1,5 +1,5 @@
 -- What one call, and then a run of calls, does to the numbers of every place.
-use Rattle.std.proofs.Common.{◌≡◌, ℕ, ◌+◌, ◌<◌, ◌≤◌, Bool, true, false, cond, eqb, List, [], ◌∷◌, length, set, Some, None, Ok, Err, Option, Result, sym, refl, ap, ◌∙◌, subst, inl, inr, arith}
+use Rattle.std.proofs.Common.{◌≡◌, ℕ, ◌+◌, ◌<◌, Bool, true, false, cond, eqb, List, [], ◌∷◌, length, set, Some, None, Ok, Err, Option, Result, sym, refl, ap, ◌∙◌, subst, inl, inr, arith}
 use Rattle.std.proofs.lemmas.List.{get_or-set_other, get_or-set_same, length-set}
 use Rattle.std.proofs.lemmas.Bool.Decides.{eqb_tells}
 use Rattle.plates.specs.Size.{Size}
@@ -7,11 +7,10 @@ use Rattle.plates.specs.declared.refusals.Refusal.{Refusal}
 use Rattle.plates.specs.declared.turnings.Turning.{Turning}
 use Rattle.plates.specs.declared.verdicts.Verdict.{Verdict}
 use Rattle.yard.specs.declared.slips.DrawnSlip.{DrawnSlip}
-use Rattle.yard.specs.declared.slips.SlipNumbers.{SlipNumbers}
 use Rattle.yard.specs.declared.slips.TackedSlip.{TackedSlip}
 use Rattle.yard.specs.declared.slips.TurnedAway.{TurnedAway}
 use Rattle.yard.specs.Counts.{Count, empty, at, with_more, moved_out, moved_back, pressed_off}
-use Rattle.yard.specs.Calls.{Drew, HandedBack, Pressed, Receipt, Received, Settled, receipt_fault, slip_fault}
+use Rattle.yard.specs.Calls.{Drew, Receipt, Settled, receipt_fault, slip_fault}
 use Rattle.yard.specs.Runs.{Event, Ran, Step, receipt, drawing, hand_back, pressing, telling, received_by, drawn_by, handed_back_by, pressed_by, received, drawn, handed_back, pressed}
 use Rattle.yard.proofs.Tables.{in_yard_held, receipt_met, slip_met}
 

@@ -1,5 +1,5 @@
 -- A replay is a run of calls on its yard, so the law of the books holds for it.
-use Rattle.std.proofs.Common.{◌≡◌, ℕ, ◌+◌, ◌<◌, ◌≤◌, List, [], ◌∷◌, ◌++◌, length, get_or, take, replicate, Some, None, Option, sym, refl, ap, ◌∙◌, subst, append_assoc, append-nil, arith}
+use Rattle.std.proofs.Common.{◌≡◌, ℕ, ◌+◌, ◌<◌, List, [], ◌∷◌, ◌++◌, length, get_or, take, replicate, Some, None, Option, sym, refl, ap, ◌∙◌, subst, append_assoc, append-nil}
 use Rattle.std.specs.List.{slice_get}
 use Rattle.std.proofs.lemmas.List.{length-append, take_more}
 use Rattle.plates.specs.Size.{Size}
@@ -12,7 +12,7 @@ use Rattle.yard.specs.declared.replays.Use.{Use}
 use Rattle.yard.specs.declared.replays.Use.TheVariants.{Tack, HandBack, Press, Void}
 use Rattle.yard.specs.Counts.{Count, empty}
 use Rattle.yard.specs.Runs.{Event, Ran, Step, receipt, drawing, hand_back, pressing, telling}
-use Rattle.yard.specs.Replays.{Does, Draws, Means, Replayed, Replays, State, Then, Uses, hung}
+use Rattle.yard.specs.Replays.{Does, Draws, Means, Replayed, Replays, State, Uses, hung}
 use Rattle.yard.proofs.Books.{the_law}
 
 -- what has been done when there are these answers

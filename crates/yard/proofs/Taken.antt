@@ -1,21 +1,17 @@
 -- How many hooks a call takes.
-use Rattle.std.proofs.Common.{◌≡◌, ℕ, ◌+◌, ◌<◌, ◌≤◌, List, [], ◌∷◌, ◌++◌, length, get_or, take, replicate, Some, None, Ok, Err, Option, Result, sym, refl, ap, ◌∙◌, subst, append_assoc, append-nil, arith}
+use Rattle.std.proofs.Common.{ℕ, ◌+◌, ◌≤◌, List, length, Some, None, Ok, Err, Option, Result, ap, arith}
 use Rattle.std.specs.List.{slice_get}
-use Rattle.std.proofs.lemmas.List.{length-append, length-set, take_more}
+use Rattle.std.proofs.lemmas.List.{length-append, length-set}
 use Rattle.plates.specs.Size.{Size}
 use Rattle.plates.specs.declared.refusals.Refusal.{Refusal}
 use Rattle.yard.specs.declared.slips.DrawnSlip.{DrawnSlip}
 use Rattle.yard.specs.declared.replays.Answer.{Answer}
 use Rattle.yard.specs.declared.replays.Call.{Call}
 use Rattle.yard.specs.declared.replays.Call.TheVariants as call
-use Rattle.yard.specs.declared.replays.Hook.{Hook}
-use Rattle.yard.specs.declared.replays.Hook.TheVariants.{Drawn, Tacked, Empty}
 use Rattle.yard.specs.declared.replays.Use.{Use}
 use Rattle.yard.specs.declared.replays.Use.TheVariants.{Tack, HandBack, Press, Void}
-use Rattle.yard.specs.Counts.{Count, empty}
-use Rattle.yard.specs.Runs.{Event, Ran, Step, receipt, drawing, hand_back, pressing, telling}
-use Rattle.yard.specs.Replays.{Does, Draws, Means, OnHook, Replayed, Replays, State, Then, Uses, hooked, hung}
-use Rattle.yard.proofs.Books.{the_law}
+use Rattle.yard.specs.Runs.{Event}
+use Rattle.yard.specs.Replays.{Does, Draws, Means, OnHook, State, hooked}
 
 -- a call hangs at most one slip more
 hooked_one : (r : Result DrawnSlip Refusal) → length (hooked r) ≤ 1

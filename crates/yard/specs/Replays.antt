@@ -1,6 +1,6 @@
 -- What a replay does: for each call its answer, the events on the yard that it makes, and the
 -- rack after it.
-use Rattle.std.specs.Prelude.{◌≡◌, ℕ, List, [], ◌∷◌, ◌++◌, map, length, take, replicate, Some, None, Ok, Err, Option, Result, slice_index_or, slice_set}
+use Rattle.std.specs.Prelude.{◌≡◌, ℕ, List, [], ◌∷◌, ◌++◌, length, take, replicate, Some, None, Ok, Err, Option, Result, slice_index_or, slice_set}
 use Rattle.std.specs.List.{slice_get}
 use Rattle.plates.specs.Size.{Size}
 use Rattle.plates.specs.declared.refusals.Refusal.{Refusal}

@@ -1,5 +1,5 @@
-use Rattle.std.proofs.Common.{◌≡◌, pos, ◌*ℤ◌, sym, ap, ◌∙◌, subst, arith, w64, SFits, rules}
-use Rattle.std.proofs.lemmas.Int.{ints, to_z-of_z}
+use Rattle.std.proofs.Common.{◌≡◌, pos, ◌*ℤ◌, ◌∙◌, w64, SFits, rules}
+use Rattle.std.proofs.lemmas.Int.{to_z-of_z}
 use Rattle.clauses.specs.Splice.{axis, floored}
 use Rattle.clauses.proofs.splices.axis.Goals as goal
 

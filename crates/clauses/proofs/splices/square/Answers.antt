@@ -1,6 +1,6 @@
-use Rattle.std.proofs.Common.{◌≡◌, ◌*◌, ◌≤◌, nat_abs, sym, ap, ◌∙◌, subst, arith, w64, SFits, rules}
+use Rattle.std.proofs.Common.{◌≡◌, ◌*◌, ◌≤◌, nat_abs, sym, ap, ◌∙◌, subst, w64, SFits, rules}
 use Rattle.std.proofs.lemmas.Nat.{mul-le}
-use Rattle.std.proofs.lemmas.Int.{ints, to_z-of_z}
+use Rattle.std.proofs.lemmas.Int.{to_z-of_z}
 use Rattle.clauses.proofs.Floors.{natAbs_up_to}
 use Rattle.clauses.proofs.splices.square.Goals as goal
 

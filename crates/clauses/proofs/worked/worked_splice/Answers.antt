@@ -1,4 +1,4 @@
-use Rattle.std.proofs.Common.{◌≡◌, ◌∙◌, w64, SFits, rules}
+use Rattle.std.proofs.Common.{◌∙◌, w64, SFits, rules}
 use Rattle.std.proofs.lemmas.Int.{to_z-of_z}
 use Rattle.clauses.proofs.ByHand.{by_hand}
 use Rattle.clauses.proofs.worked.worked_splice.Goals as goal

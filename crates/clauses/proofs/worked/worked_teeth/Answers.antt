@@ -1,4 +1,4 @@
-use Rattle.std.proofs.Common.{◌≡◌, sym, refl, ap, ◌∙◌}
+use Rattle.std.proofs.Common.{ap, ◌∙◌}
 use Rattle.rules.specs.declared.terms.Duration.TheVariants.{Standard}
 use Rattle.rules.specs.declared.terms.Service.TheVariants.{SeasonedDry}
 use Rattle.clauses.specs.Clauses.{capacity}

@@ -1,4 +1,4 @@
-use Rattle.std.proofs.Common.{sym, ◌∙◌, subst, arith}
+use Rattle.std.proofs.Common.{sym, ◌∙◌, subst}
 use Rattle.std.proofs.ByRecursion.{All-get_or}
 use Rattle.joints.proofs.Scanning.{passes_on, fails_here, none_left}
 use Rattle.joints.proofs.scan.first_failing.Goals as goal

@@ -1,4 +1,3 @@
-use Rattle.std.proofs.Common.{arith}
 use Rattle.rules.specs.Ranges.{MemberWithin}
 use Rattle.joints.proofs.Firsts.{all_first}
 use Rattle.joints.proofs.splice.splice_clauses.Goals as goal

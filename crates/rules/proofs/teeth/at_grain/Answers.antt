@@ -1,4 +1,4 @@
-use Rattle.std.proofs.Common.{◌≡◌, ◌+◌, ◌-◌, ◌*◌, ◌/◌, refl, ap, arith}
+use Rattle.std.proofs.Common.{◌+◌, ◌-◌, ◌*◌, ◌/◌, ap, arith}
 use Rattle.rules.specs.Teeth.{at_grain}
 use Rattle.rules.proofs.Bounds.{inverse_mean, some_weight}
 use Rattle.rules.proofs.teeth.at_grain.Goals as goal

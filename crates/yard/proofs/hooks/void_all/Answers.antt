@@ -1,4 +1,4 @@
-use Rattle.std.proofs.Common.{◌≡◌, true, false, vec_items, arith}
+use Rattle.std.proofs.Common.{true, false, vec_items, arith}
 use Rattle.yard.proofs.Hanging.{hanging_off}
 use Rattle.yard.proofs.hooks.void_all.Goals as goal
 
