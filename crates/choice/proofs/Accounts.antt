@@ -2,7 +2,7 @@
 use Rattle.std.proofs.Common.{◌≡◌, ℕ, zero, suc, ◌<◌, ◌≤◌, List, [], ◌∷◌, ◌++◌, Some, None, Ok, Err, Option, Result, sym, refl, ◌∙◌, subst, inl, inr, ⊎_elim, arith}
 use Rattle.std.proofs.ByRecursion.{All-append, All-weaker, has_append_left, has_append_right}
 use Rattle.std.proofs.lemmas.Bool.{cases_lt}
-use Rattle.std.specs.List.{ContainsAt as Has, AllByRecursion as All}
+use Rattle.std.specs.List.{ContainsAt as Has, AllByRecursion}
 use Rattle.plates.specs.Size.{Size}
 use Rattle.plates.specs.declared.refusals.Refusal.{Refusal}
 use Rattle.plates.specs.declared.turnings.Turning.{Turning}
@@ -17,13 +17,13 @@ use Rattle.choice.proofs.Below.{some_is_not_none}
 use Rattle.choice.proofs.Rows.{length_explained}
 
 -- what holds of the rows of each of the first n places holds of all their rows
-each_row : (P : ExplainRow → Type 0) (v : Size → Turning → Verdict) (n : ℕ) (shows : ℕ → Option Size) → ((k : ℕ) (s : Size) (t : Turning) → k < n → shows k ≡ Some s → P (row_of v k s t)) → All P (explained v n shows)
+each_row : (P : ExplainRow → Type 0) (v : Size → Turning → Verdict) (n : ℕ) (shows : ℕ → Option Size) → ((k : ℕ) (s : Size) (t : Turning) → k < n → shows k ≡ Some s → P (row_of v k s t)) → AllByRecursion P (explained v n shows)
 each_row P v zero shows h = tt
 each_row P v (suc n) shows h =
     All-append P (explained v n shows) (rows_at v n (shows n)) (each_row P v n shows (λ k s t l e. h k s t (omega arith) e))
     (here (shows n) refl)
   where
-    here : (o : Option Size) → shows n ≡ o → All P (rows_at v n o)
+    here : (o : Option Size) → shows n ≡ o → AllByRecursion P (rows_at v n o)
     here None e = tt
     here (Some s) e = (h n s Unturned (omega arith) e, (h n s Turned (omega arith) e, tt))
 
@@ -42,7 +42,7 @@ has_row v (suc n) shows k s t h e =
     (subst (λ o. Has (rows_at v k o) (row_of v k s t)) (sym e) (has_turning v k s t))))
     (cases_lt k n)
 
-ordered_append : (xs ys : List ExplainRow) → InOrder xs → InOrder ys → All (λ x. All (Before x) ys) xs → InOrder (xs ++ ys)
+ordered_append : (xs ys : List ExplainRow) → InOrder xs → InOrder ys → AllByRecursion (λ x. AllByRecursion (Before x) ys) xs → InOrder (xs ++ ys)
 ordered_append [] ys o p a = p
 ordered_append (x ∷ xs) ys o p a = (All-append (Before x) xs ys o.0 a.0, ordered_append xs ys o.1 p a.1)
 
@@ -51,7 +51,7 @@ ordered_at v k None = tt
 ordered_at v k (Some s) = ((inr (refl, refl, refl), tt), (tt, tt))
 
 -- a row of a lower place goes before those of place k
-before_at : (v : Size → Turning → Verdict) (k : ℕ) (o : Option Size) (x : ExplainRow) → x.place < k → All (Before x) (rows_at v k o)
+before_at : (v : Size → Turning → Verdict) (k : ℕ) (o : Option Size) (x : ExplainRow) → x.place < k → AllByRecursion (Before x) (rows_at v k o)
 before_at v k None x l = tt
 before_at v k (Some s) x l = (inl l, (inl l, tt))
 
@@ -59,12 +59,12 @@ in_order : (v : Size → Turning → Verdict) (n : ℕ) (shows : ℕ → Option 
 in_order v zero shows = tt
 in_order v (suc n) shows =
     ordered_append (explained v n shows) (rows_at v n (shows n)) (in_order v n shows) (ordered_at v n (shows n))
-    (each_row (λ x. All (Before x) (rows_at v n (shows n))) v n shows (λ k s t l e. before_at v n (shows n) (row_of v k s t) l))
+    (each_row (λ x. AllByRecursion (Before x) (rows_at v n (shows n))) v n shows (λ k s t l e. before_at v n (shows n) (row_of v k s t) l))
 
 pub account : (v : Size → Turning → Verdict) (n : ℕ) (shows : ℕ → Option Size) → ((k : ℕ) → n ≤ k → shows k ≡ None) → Account v n shows (explained v n shows)
 account v n shows beyond = record { tells = tells; whole = whole; ordered = in_order v n shows; twice = length_explained v n shows; agrees = agrees }
   where
-    tells : All (Tells v shows) (explained v n shows)
+    tells : AllByRecursion (Tells v shows) (explained v n shows)
     tells = each_row (Tells v shows) v n shows (λ k s t l e. (s, e, refl))
 
     whole : (k : ℕ) (s : Size) (t : Turning) → shows k ≡ Some s → Has (explained v n shows) (row_of v k s t)

@@ -1,10 +1,10 @@
 -- The first of some members.
 use Rattle.std.proofs.Common.{◌≡◌, ℕ, Bool, false, eqb, List, [], ◌∷◌, length, get_or, refl, arith}
-use Rattle.std.specs.List.{AllByRecursion as All}
+use Rattle.std.specs.List.{AllByRecursion}
 use Rattle.rules.specs.declared.terms.Member.{Member}
 use Rattle.joints.specs.Splices.{at_first}
 
-pub all_first : (P : Member → Type 0) (ms : List Member) (d : Member) → false ≡ eqb (length ms) 0 → All P ms → P (get_or ms 0 d)
+pub all_first : (P : Member → Type 0) (ms : List Member) (d : Member) → false ≡ eqb (length ms) 0 → AllByRecursion P ms → P (get_or ms 0 d)
 all_first P [] d e h = let z : ◌≡◌ {A = ℕ} 0 1 = cc in absurd (omega arith)
 all_first P (m ∷ ms) d e h = h.0
 

@@ -1,6 +1,6 @@
 -- The scan for the first item that fails: its steps, and what its result means.
 use Rattle.std.proofs.Common.{◌≡◌, ℕ, ◌+◌, ◌<◌, ◌≤◌, Bool, true, false, cond, List, [], ◌∷◌, length, get_or, drop, Some, None, Option, sym, refl, ap, ◌∙◌, add-zero, add_assoc, arith}
-use Rattle.std.specs.List.{AllByRecursion as All}
+use Rattle.std.specs.List.{AllByRecursion}
 use Rattle.std.proofs.lemmas.List.{at_drop_more, at_drop_all}
 use Rattle.std.proofs.lemmas.Bool.{cond-true, cond-false}
 use Rattle.joints.specs.Scan.{first_failing, FirstFailing}
@@ -19,13 +19,13 @@ module _ {T : Type 0} (p : T → Bool) (start : ℕ) (xs : List T) where
   none_left i h = at_drop_all (first_failing p (start + i)) xs i h
 
 -- what holds of everything holds of each item
-pub all_of : {T : Type 0} (P : T → Type 0) → ((x : T) → P x) → (xs : List T) → All P xs
+pub all_of : {T : Type 0} (P : T → Type 0) → ((x : T) → P x) → (xs : List T) → AllByRecursion P xs
 all_of P h [] = tt
 all_of P h (x ∷ xs) = (h x, all_of P h xs)
 
 -- what the result means
 abbrev pub Means : {T : Type 0} → (T → Bool) → ℕ → List T → Option ℕ → Type 0
-Means p start xs None = All (λ x. p x ≡ true) xs
+Means p start xs None = AllByRecursion (λ x. p x ≡ true) xs
 Means p start xs (Some k) = FirstFailing p start xs k
 
 one_more : {T : Type 0} (p : T → Bool) (start : ℕ) (x : T) (xs : List T) → p x ≡ true → (r : Option ℕ) → Means p (start + 1) xs r → Means p start (x ∷ xs) r

@@ -5,7 +5,7 @@ use Rattle.joints.specs.Grounds.{member_ranged, card_ranged, drawn, unless_at, n
 use Rattle.plates.specs.Refusals.{Grounded}
 use Rattle.plates.specs.declared.refusals.Refusal.{Refusal}
 use Rattle.plates.specs.declared.refusals.Refusal.TheVariants.{SheetNumber, MemberSpan, MemberNumber, CardNumber, EmptyField, NoPlace, BadReceipt, BookFull, NothingFits, OtherStamp, NoneOut}
-use Rattle.std.specs.List.{AllByRecursion as All}
+use Rattle.std.specs.List.{AllByRecursion}
 use Rattle.std.proofs.ByRecursion.{All-weaker}
 use Rattle.std.proofs.lemmas.List.{length-take}
 use Rattle.std.proofs.lemmas.Bool.Decides.{nat_tests}
@@ -37,8 +37,8 @@ stands_so d = by_numbers d d.numbers refl
 pub record Lawful (d : Drawing) : Type 0 where
   pub numbered : d.numbers ≡ true
   pub spans : d.span ≡ true
-  pub ranged : All MemberWithin d.members
-  pub carded : All CardWithin d.cards
+  pub ranged : AllByRecursion MemberWithin d.members
+  pub carded : AllByRecursion CardWithin d.cards
 
 pub lawful : (d : Drawing) → stands d ≡ Ok tt → Lawful d
 lawful d e =

@@ -1,6 +1,6 @@
 -- Numbers that passed the tests of their ranges lie within them.
 use Rattle.std.proofs.Common.{◌≡◌, ℕ, zero, suc, ◌<◌, ◌≤◌, true, List, [], ◌∷◌, get_or, Some, subst, arith}
-use Rattle.std.specs.List.{AllByRecursion as All}
+use Rattle.std.specs.List.{AllByRecursion}
 use Rattle.std.proofs.lemmas.Bool.{and_parts}
 use Rattle.std.proofs.lemmas.Int.{ints}
 use Rattle.std.proofs.lemmas.Bool.Decides.{nat_tests}
@@ -80,7 +80,7 @@ card_within c t =
     }
 
 -- the card of a family is one of the cards
-pub card_found : (P : Card → Type 0) (cs : List Card) (k : ℕ) (c : Card) → All P cs → card_of cs k ≡ Some c → P c
+pub card_found : (P : Card → Type 0) (cs : List Card) (k : ℕ) (c : Card) → AllByRecursion P cs → card_of cs k ≡ Some c → P c
 card_found P [] k c h e = let z : ◌≡◌ {A = ℕ} 0 1 = cc in absurd (omega arith)
 card_found P (d ∷ cs) zero c h e = let same : d ≡ c = cc in subst P same h.0
 card_found P (d ∷ cs) (suc k) c h e = card_found P cs k c h.1 e

@@ -1,6 +1,6 @@
 -- The grounds on which a joint is turned away, in their order.
 use Rattle.std.specs.Prelude.{◌≡◌, ℕ, ◌+◌, Bool, true, false, cond, ◌&&◌, ◌||◌, List, take, drop, pos, negsuc, Some, None, Ok, Err, Option, Result, ◌==◌, int_le, int_lt, nat_le, slice_index}
-use Rattle.std.specs.List.{AllByRecursion as All}
+use Rattle.std.specs.List.{AllByRecursion}
 use Rattle.plates.specs.declared.refusals.Refusal.{Refusal}
 use Rattle.plates.specs.declared.refusals.Refusal.TheVariants.{SheetNumber, MemberSpan, MemberNumber, CardNumber, EmptyField, NoPlace, BadReceipt, BookFull, NothingFits, OtherStamp, NoneOut}
 use Rattle.rules.specs.declared.terms.Card.{Card}
@@ -99,13 +99,13 @@ abbrev pub stands : Drawing → Result (Unit {0}) Refusal
 stands d = cond d.numbers (cond d.span (numbers_stand d.first d.members d.cards) (Err MemberSpan)) (Err SheetNumber)
 
 abbrev pub MembersRanged : Drawing → Type 0
-MembersRanged d = All (λ m. member_ranged m ≡ true) d.members
+MembersRanged d = AllByRecursion (λ m. member_ranged m ≡ true) d.members
 
 abbrev pub CardsRanged : Drawing → Type 0
-CardsRanged d = All (λ c. card_ranged c ≡ true) d.cards
+CardsRanged d = AllByRecursion (λ c. card_ranged c ≡ true) d.cards
 
 abbrev pub FieldsDrawn : Drawing → Type 0
-FieldsDrawn d = All (λ m. drawn m ≡ true) d.members
+FieldsDrawn d = AllByRecursion (λ m. drawn m ≡ true) d.members
 
 -- what a standing means: each refusal names the first fault of its ground, and no ground before it
 -- is given; lawful is what gives none

@@ -1,6 +1,6 @@
 -- The first item of a list that fails a test.
 use Rattle.std.specs.Prelude.{◌≡◌, ℕ, ◌+◌, Bool, true, false, cond, List, [], ◌∷◌, ◌++◌, length, Some, None, Option}
-use Rattle.std.specs.List.{AllByRecursion as All}
+use Rattle.std.specs.List.{AllByRecursion}
 
 -- its position, counted from `start`
 abbrev pub first_failing : {T : Type 0} → (T → Bool) → ℕ → List T → Option ℕ
@@ -13,6 +13,6 @@ pub record FirstFailing {T : Type 0} (p : T → Bool) (start : ℕ) (xs : List T
   pub item : T
   pub after : List T
   pub split : xs ≡ before ++ item ∷ after
-  pub passed : All (λ x. p x ≡ true) before
+  pub passed : AllByRecursion (λ x. p x ≡ true) before
   pub fails : p item ≡ false
   pub place : k ≡ start + length before

@@ -1,6 +1,6 @@
 -- The verdict over a list of checks, in the order in which they are tried.
 use Rattle.std.specs.Prelude.{◌≡◌, ℕ, Bool, true, false, cond, List, [], ◌∷◌, ◌++◌, Some, None, Option}
-use Rattle.std.specs.List.{AllByRecursion as All}
+use Rattle.std.specs.List.{AllByRecursion}
 use Rattle.plates.specs.declared.verdicts.Clause.{Clause}
 use Rattle.plates.specs.declared.verdicts.Verdict.{Verdict}
 use Rattle.plates.specs.declared.verdicts.Verdict.TheVariants.{Passes, Misses}
@@ -26,7 +26,7 @@ first_missed (each c p ∷ ks) ms = missed_at c (first_failing p 1 ms) (first_mi
 -- every member meets the check, or the joint does as a whole
 abbrev pub Met : List Member → Check → Type 0
 Met ms (whole c b) = b ≡ true
-Met ms (each c p) = All (λ m. p m ≡ true) ms
+Met ms (each c p) = AllByRecursion (λ m. p m ≡ true) ms
 
 -- the check of clause c is missed by the joint, as member 0, or by member k and by none before it
 abbrev pub Missed : List Member → Check → Clause → ℕ → Type 0
@@ -40,9 +40,9 @@ pub record MissesFirst (ks : List Check) (ms : List Member) (c : Clause) (k : �
   pub missed : Check
   pub later : List Check
   pub split : ks ≡ met ++ missed ∷ later
-  pub passed : All (Met ms) met
+  pub passed : AllByRecursion (Met ms) met
   pub fails : Missed ms missed c k
 
 abbrev pub Judges : List Check → List Member → Verdict → Type 0
-Judges ks ms Passes = All (Met ms) ks
+Judges ks ms Passes = AllByRecursion (Met ms) ks
 Judges ks ms (Misses c k) = MissesFirst ks ms c k

@@ -1,6 +1,6 @@
 // One loop for every 'first that fails': a test over the items of a list.
 ghost use Rattle.std.specs.Prelude.{◌≡◌, ◌+◌, ◌^◌, ◌<◌, Bool, length};
-ghost use Rattle.std.specs.List.{AllByRecursion as All};
+ghost use Rattle.std.specs.List.{AllByRecursion};
 ghost use Rattle.joints.specs.Scan.{first_failing};
 
 // A test of one item. `ready` says of which items it may be asked.
@@ -16,7 +16,7 @@ pub trait Test<T> {
 
 // The position of the first item that fails the test, counted from `start`.
 pub fn first_failing<T, Q: Test<T>>(test: &Q, start: usize, items: &[T]) -> Option<usize>
-    requires ready { All (Q.ready test.now) items.now }
+    requires ready { AllByRecursion (Q.ready test.now) items.now }
     requires within { start + length items.now < 2 ^ 64 }
     ensures { result ≡ first_failing (Q.holds test.now) start items.now }
 {

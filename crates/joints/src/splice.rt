@@ -1,6 +1,6 @@
 // Splice joints.
 ghost use Rattle.std.specs.Prelude.{◌≡◌, ◌<◌, ◌≤◌, length, Ok};
-ghost use Rattle.std.specs.List.{AllByRecursion as All};
+ghost use Rattle.std.specs.List.{AllByRecursion};
 ghost use Rattle.plates.specs.Size.{Size, size};
 ghost use Rattle.plates.specs.declared.turnings.Turning.{Turning};
 ghost use Rattle.clauses.specs.Clauses.{laid};
@@ -39,7 +39,7 @@ fn splice_clauses(splice: &SpliceSheet, trial: &Trial, own: &[Member]) -> Verdic
     requires moment { splice.now.moment ≤ 20000000 }
     requires wood { (1 ≤ splice.now.wood) × (splice.now.wood ≤ 400) }
     requires trial { TrialWithin trial.now }
-    requires own { All MemberWithin own.now }
+    requires own { AllByRecursion MemberWithin own.now }
     ensures { result ≡ first_missed (splice_clauses splice.now (laid trial.now) own.now) own.now }
 {
     if own.is_empty() {

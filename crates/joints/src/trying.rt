@@ -1,6 +1,6 @@
 // Trying a plate on a joint: the clauses A to I, in order, each over all members before the next.
 ghost use Rattle.std.specs.Prelude.{◌≡◌, ◌^◌, ◌<◌, ◌≤◌, length};
-ghost use Rattle.std.specs.List.{AllByRecursion as All};
+ghost use Rattle.std.specs.List.{AllByRecursion};
 ghost use Rattle.plates.specs.Size.{size};
 ghost use Rattle.clauses.specs.Clauses.{laid, meets};
 ghost use Rattle.rules.specs.Ranges.{CardWithin, MemberWithin};
@@ -54,7 +54,7 @@ impl Test<Member> for Meets {
 // The first of the member clauses that is missed, with its first member, counted from 1.
 fn members_verdict(trial: &Trial, own: &[Member]) -> Verdict
     requires trial { TrialWithin trial.now }
-    requires own { All MemberWithin own.now }
+    requires own { AllByRecursion MemberWithin own.now }
     requires few { length own.now ≤ 6 }
     ensures { result ≡ first_missed (each_of member_clauses (laid trial.now)) own.now }
 {
@@ -80,8 +80,8 @@ pub fn tried(
     turning: Turning,
 ) -> Verdict
     requires factor { factor ≤ 100 }
-    requires cards { All CardWithin cards.now }
-    requires own { All MemberWithin own.now }
+    requires cards { AllByRecursion CardWithin cards.now }
+    requires own { AllByRecursion MemberWithin own.now }
     requires few { length own.now ≤ 6 }
     ensures { result ≡ first_missed (checks conditions.now factor (card_of cards.now (size plate).family) (size plate) turning) own.now }
 {

@@ -1,6 +1,6 @@
 -- What a strike list shows of a supply, and its laws.
 use Rattle.std.specs.Prelude.{◌≡◌, ℕ, ◌≤◌, Bool, false, cond, ◌||◌, List, [], ◌∷◌, take, None, Option, ◌==◌}
-use Rattle.std.specs.List.{AllByRecursion as All}
+use Rattle.std.specs.List.{AllByRecursion}
 use Rattle.plates.specs.Size.{Size}
 use Rattle.supplies.specs.Shown.{AllExist, NothingFrom, Same}
 
@@ -17,6 +17,6 @@ pub record StrikeLaws (struck : List ℕ) : Type 0 where
   -- an empty strike list hides nothing
   pub empty : struck ≡ [] → (shows : ℕ → Option Size) → Same (strike_shows struck shows) shows
   -- nor does one of places past the count
-  pub past : (places : ℕ) (shows : ℕ → Option Size) → NothingFrom places shows → All (λ j. places ≤ j) (take 32 struck) → Same (strike_shows struck shows) shows
+  pub past : (places : ℕ) (shows : ℕ → Option Size) → NothingFrom places shows → AllByRecursion (λ j. places ≤ j) (take 32 struck) → Same (strike_shows struck shows) shows
   -- no plate is shown that does not exist below
   pub exist : (shows : ℕ → Option Size) → AllExist shows → AllExist (strike_shows struck shows)

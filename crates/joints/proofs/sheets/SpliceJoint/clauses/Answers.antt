@@ -1,5 +1,5 @@
 use Rattle.std.proofs.Common.{◌≡◌, ◌≤◌, true, false, List, length, Some, sym, ap, ◌∙◌, subst, arith}
-use Rattle.std.specs.List.{AllByRecursion as All}
+use Rattle.std.specs.List.{AllByRecursion}
 use Rattle.std.proofs.lemmas.Bool.Decides.{nat_tests}
 use Rattle.plates.specs.Size.{Size, size}
 use Rattle.plates.specs.Verdicts.{passes}
@@ -20,8 +20,8 @@ tried-verdict-requires c =
     let given = lawful (splice_drawing c.args.self.now) c.requires in
     record {
       factor = omega arith;
-      cards = subst (All CardWithin) (sym c.read_cards-cards.ensures) given.carded;
-      own = subst (All MemberWithin) (sym c.own-own.ensures) given.ranged;
+      cards = subst (AllByRecursion CardWithin) (sym c.read_cards-cards.ensures) given.carded;
+      own = subst (AllByRecursion MemberWithin) (sym c.own-own.ensures) given.ranged;
       few = subst (λ ms. length ms ≤ 6) (sym c.own-own.ensures) (few_paired c.args.self.now.splice.sheet _ _ given.spans);
     }
 
@@ -59,9 +59,9 @@ splice_clauses-requires c =
       wood = (grind (arith, nat_tests), grind (arith, nat_tests));
       trial = record {
         factor = omega arith;
-        card = card_found CardWithin c.read_cards-cards.result.now _ _ (subst (All CardWithin) (sym c.read_cards-cards.ensures) given.carded) (sym c.in-Some.ensures);
+        card = card_found CardWithin c.read_cards-cards.result.now _ _ (subst (AllByRecursion CardWithin) (sym c.read_cards-cards.ensures) given.carded) (sym c.in-Some.ensures);
       };
-      own = subst (All MemberWithin) (sym c.own-own.ensures) given.ranged;
+      own = subst (AllByRecursion MemberWithin) (sym c.own-own.ensures) given.ranged;
     }
 
 pub returns : goal.returns
