@@ -30,7 +30,7 @@ pub trait Draft: Copy {
 
 // The draft with one more line, of which `word` is the first: a key of the block, for the first time.
 pub fn with_line<D: Draft>(draft: D, word: &str, line: &mut Line) -> Result<D, Fault>
-    ensures { IfOk result (λ d. (k : D.Key) × D.Key.Value.reads word.now (Some k) × (has k draft ≡ false) × (has k d ≡ true) × kept k draft d × takes k (rest line.old) d (rest line.new)) }
+    ensures { IfOk result (λ d. (k : D.Key) × D.Key.Value.reads word.now (Some k) × (D.has k draft ≡ false) × (D.has k d ≡ true) × D.kept k draft d × D.takes k (rest line.old) d (rest line.new)) }
 {
     let Some(key) = D::Key::read(word) else {
         return Err(line.wrong(word, D::Key::expected()));
