@@ -8,7 +8,7 @@ use Rattle.jobs_next.proofs.reader.read.Goals as goal
 pub loop-line-init : goal.loop-line-init
 loop-line-init c =
     let text = c.args.text.now in
-    let left : lines_rest c.into-iter-line-iterator.result ≡ text = ap lines_rest c.into-iter-line-iterator.ensures.into-iter-gives ∙ c.lines-line-items.ensures.rest in (
+    let left : lines_rest c.into_iter-line-iterator.result ≡ text = ap lines_rest c.into_iter-line-iterator.ensures.into_iter_gives ∙ c.lines-line-items.ensures.rest in (
       subst (λ w. Reading text 0 w (state c.new-reader.result)) (sym left) (subst (Reading text 0 text) (sym c.new-reader.ensures) begun),
       omega (arith, ap length left),
     )

@@ -22,15 +22,15 @@ one_row w bs left s t x is e word row =
 pub returns : goal.returns
 returns c =
     elim c.match-self.branch [
-      | goal.in-Card+in_ok-with_line w ↦ search rules
-      | goal.in-Member+in_ok-with_line-2 w ↦ search rules
-      | goal.in-Web+in_ok-with_line-3 w ↦ search rules
-      | goal.in-Heel+in_ok-with_line-4 w ↦ search rules
-      | goal.in-Splice+in_ok-with_line-5 w ↦ search rules
-      | goal.in-List+in_ok-plate_row+in_ok-push w ↦
+      | goal.in-Card+in_ok-with_line-in-Card w ↦ search rules
+      | goal.in-Member+in_ok-with_line-in-Member w ↦ search rules
+      | goal.in-Web+in_ok-with_line-in-Web w ↦ search rules
+      | goal.in-Heel+in_ok-with_line-in-Heel w ↦ search rules
+      | goal.in-Splice+in_ok-with_line-in-Splice w ↦ search rules
+      | goal.in-List+in_ok-plate_row-in-List+in_ok-push-in-List w ↦
           let s = state c.args.self.now in
-          let x = w.in_ok-plate_row.field-0 in
-          let said = w.in_ok-plate_row.ensures in
+          let x = w.in_ok-plate_row-in-List.field-0 in
+          let said = w.in_ok-plate_row-in-List.ensures in
           let grown : List Row → State = λ rows. record {
             block = s.block;
             opened = s.opened;
@@ -38,10 +38,10 @@ returns c =
             job = record { cards = s.job.cards; members = s.job.members; sheets = s.job.sheets; rows = rows; coil = s.job.coil; layers = s.job.layers };
           }
           in
-          let more = ap state w.self-is ∙ ap grown w.in_ok-push.ensures.items in
+          let more = ap state w.self-is ∙ ap grown w.in_ok-push-in-List.ensures.items in
           let row = subst (λ (l : Line). RowSaid (rest c.args.line.now) (rest l) x) (sym w.line-is) said.row in
           one_row c.args.word.now (rest c.args.line.now) (rest c.match-self.line) s (state c.match-self.self) x w.in-List.is more said.word row
-      | goal.in-Coil+in_ok-with_line-6 w ↦ search rules
-      | goal.in-Press+in_ok-with_line-7 w ↦ search rules
-      | goal.in-Strike+in_ok-with_line-8 w ↦ search rules
+      | goal.in-Coil+in_ok-with_line-in-Coil w ↦ search rules
+      | goal.in-Press+in_ok-with_line-in-Press w ↦ search rules
+      | goal.in-Strike+in_ok-with_line-in-Strike w ↦ search rules
     ]

@@ -3,7 +3,7 @@ use Rattle.texts.specs.Lines.{Blank, rest}
 use Rattle.texts.specs.declared.line.Line.{Line}
 use Rattle.jobs_next.specs.Texts.{Opened, Step, blank, opener, key, state}
 use Rattle.jobs_next.proofs.reader.Reader.take.Goals as goal
-use Rattle.jobs_next.proofs.reader.Reader.take.Goals.{in-Some-read+in_ok-open, in-None+in_ok-key}
+use Rattle.jobs_next.proofs.reader.Reader.take.Goals.{in-Some-read+in_ok-open-in-Some-read, in-None+in_ok-key-in-None}
 
 pub returns-in_default : goal.returns-in_default
 returns-in_default c = blank c.in_default.ensures.word.0
@@ -15,15 +15,15 @@ returns c =
     let first = c.in-Some.ensures.word in
     let over = c.in_ok-end.ensures in
     elim c.match-read.branch [
-      | in-Some-read+in_ok-open w ↦
-          let opened = subst (λ n. Opened n w.in-Some-read.block from (state w.open.new.self)) c.word.ensures.number w.in_ok-open.ensures in
-          let step : Step line.number (rest line) from (state w.open.new.self) =
+      | in-Some-read+in_ok-open-in-Some-read w ↦
+          let opened = subst (λ n. Opened n w.in-Some-read.block from (state w.«open».new.self)) c.word.ensures.number w.in_ok-open-in-Some-read.ensures in
+          let step : Step line.number (rest line) from (state w.«open».new.self) =
           opener (c.in-Some.word.now, first, w.in-Some-read.ensures) (subst (λ (l : Line). Blank (rest l)) w.line-is over) opened
           in
           subst (λ r. Step line.number (rest line) from (state r)) (sym w.self-is) step
-      | in-None+in_ok-key w ↦
+      | in-None+in_ok-key-in-None w ↦
           let step : Step line.number (rest line) from (state w.key.new.self) =
-          key first w.in-None.ensures w.in_ok-key.ensures (subst (λ (l : Line). Blank (rest l)) w.line-is over)
+          key first w.in-None.ensures w.in_ok-key-in-None.ensures (subst (λ (l : Line). Blank (rest l)) w.line-is over)
           in
           subst (λ r. Step line.number (rest line) from (state r)) (sym w.self-is) step
     ]
