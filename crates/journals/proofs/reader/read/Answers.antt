@@ -14,13 +14,13 @@ none_said said None none h = h
 pub loop-line-init : goal.loop-line-init
 loop-line-init c =
     let text = c.args.text.now in
-    let left : lines_rest c.into-iter-line-iterator.result ≡ text = ap lines_rest c.into-iter-line-iterator.ensures.into-iter-gives ∙ c.lines-line-items.ensures.rest in (
+    let left : lines_rest c.into_iter-line-iterator.result ≡ text = ap lines_rest c.into_iter-line-iterator.ensures.into_iter_gives ∙ c.lines-line-items.ensures.rest in (
       subst (λ w. Reading text 0 w (vec_items c.new-entries.result)) (sym left) (subst (Reading text 0 text) (sym c.new-entries.ensures.items) begun),
       omega (arith, ap length left),
     )
 
-pub loop-line-preserved-in-Continue·-branch-3 : goal.loop-line-preserved-in-Continue·-branch-3
-loop-line-preserved-in-Continue·-branch-3 c =
+pub loop-line-preserved-in-Continue-branch-3 : goal.loop-line-preserved-in-Continue-branch-3
+loop-line-preserved-in-Continue-branch-3 c =
     let step = c.in-Some.ensures.steps.0 in
     let said = rest c.new.result in
     let says : Says said c.in-Some-2.call = subst (λ o. MatchOption o (Blank said) (λ k. Says said k)) c.in-Some-2.is c.in_ok-call.ensures in
