@@ -1,5 +1,5 @@
 -- A book of two free rows for each place takes the rows of all places.
-use Rattle.std.proofs.Common.{◌≡◌, ℕ, zero, suc, ◌+◌, ◌*◌, ◌≤◌, min, Bool, true, false, cond, List, [], ◌∷◌, ◌++◌, length, take, drop, is_some, Ok, Err, Option, Result, sym, refl, ap, ◌∙◌, subst, arith}
+use Rattle.std.proofs.Common.{◌≡◌, ℕ, zero, suc, ◌+◌, ◌*◌, ◌≤◌, Bool, true, false, cond, List, ◌++◌, length, take, drop, is_some, Ok, Err, Option, Result, sym, refl, ap, ◌∙◌, subst, arith}
 use Rattle.std.proofs.lemmas.List.{take-append-le, take_all}
 use Rattle.plates.specs.Size.{Size}
 use Rattle.plates.specs.declared.refusals.Refusal.{Refusal}
@@ -9,7 +9,7 @@ use Rattle.choice.specs.Books.{memory}
 use Rattle.choice.specs.Explaining.{explained, shown, Accounted, Explained}
 use Rattle.choice.specs.declared.book.RowBook.{RowBook}
 use Rattle.choice.specs.declared.explaining.ExplainRow.{ExplainRow}
-use Rattle.asking.specs.Accounts.{AllRows, NoRows}
+use Rattle.asking.specs.Accounts.{AllRows}
 
 abbrev Granted : Result (Unit {0}) Refusal → Type 0
 Granted (Ok u) = Unit {0}

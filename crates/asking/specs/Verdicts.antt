@@ -3,7 +3,6 @@ use Rattle.std.specs.Prelude.{◌≡◌, List, Some, None, Result}
 use Rattle.std.specs.List.{ContainsAt as Has}
 use Rattle.plates.specs.declared.refusals.Refusal.{Refusal}
 use Rattle.plates.specs.declared.verdicts.Verdict.{Verdict}
-use Rattle.texts.specs.Faults.{at_line}
 use Rattle.texts.specs.declared.faults.Fault.{Fault}
 use Rattle.texts.specs.declared.faults.Fault.TheVariants.{Format, Memory}
 use Rattle.blocks.specs.declared.sheets.Tried.{Tried}

@@ -3,9 +3,6 @@ use Rattle.std.specs.Prelude.{◌≡◌, ℕ, Bool, true, false, List, [], ◌�
 use Rattle.rules.specs.declared.terms.Card.{Card}
 use Rattle.rules.specs.declared.terms.Member.{Member}
 use Rattle.joints.specs.declared.any.AnySheet.TheVariants as sheet
-use Rattle.joints.specs.declared.sheets.HeelSheet.{HeelSheet}
-use Rattle.joints.specs.declared.sheets.Sheet.{Sheet}
-use Rattle.joints.specs.declared.sheets.SpliceSheet.{SpliceSheet}
 use Rattle.supplies.specs.declared.layered.Layer.{Layer}
 use Rattle.supplies.specs.declared.list.Row.{Row}
 use Rattle.texts.specs.Lines.{Numbers}

@@ -1,5 +1,5 @@
 -- A whole journal, line by line.
-use Rattle.std.specs.Prelude.{◌≡◌, ℕ, ◌+◌, ◌<◌, List, [], ◌∷◌, ◌++◌, length}
+use Rattle.std.specs.Prelude.{◌≡◌, ℕ, ◌+◌, List, [], ◌∷◌, ◌++◌, length}
 use Rattle.std.specs.Str.Lines.{IsFirstLine}
 use Rattle.texts.specs.Lines.{Blank, Said}
 use Rattle.yard.specs.declared.replays.Call.{Call}

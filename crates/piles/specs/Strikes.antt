@@ -1,5 +1,5 @@
 -- The block `strike`: its key, its draft and the strike list that a whole draft gives.
-use Rattle.std.specs.Prelude.{◌≡◌, ℕ, Bool, List, is_some, None, Ok, codes, Result}
+use Rattle.std.specs.Prelude.{ℕ, Bool, List, is_some, None, Ok, codes, Result}
 use Rattle.supplies.specs.declared.layered.Layer.{Layer}
 use Rattle.supplies.specs.declared.layered.Layer.TheVariants.{Strike}
 use Rattle.texts.specs.Drafts.{given, Filled}

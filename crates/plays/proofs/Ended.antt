@@ -10,7 +10,7 @@ use Rattle.yard.specs.declared.hooks.OpenSlip.{OpenSlip}
 use Rattle.yard.specs.declared.replays.Answer.{Answer}
 use Rattle.yard.specs.declared.replays.Call.{Call}
 use Rattle.yard.specs.declared.replays.Hook.{Hook}
-use Rattle.plays.specs.Beside.{Beside, answer_of}
+use Rattle.plays.specs.Beside.{Beside}
 use Rattle.plays.specs.Plays.{Plays}
 use Rattle.plays.specs.declared.lists.Done.{Done}
 

@@ -8,7 +8,6 @@ use Rattle.yard.specs.declared.slips.SlipNumbers.{SlipNumbers}
 use Rattle.plays.specs.declared.lists.Done.{Done}
 use Rattle.plays.specs.declared.lists.End.{End}
 use Rattle.plays.specs.declared.lists.End.TheVariants as end
-use Rattle.plays.specs.declared.lists.PressLine.{PressLine}
 use Rattle.plays.specs.Lists.{ends, gathered, has_ended, line_of, listed, pressing, slips}
 
 gathered_last : {X : Type 0} (gives : Done → Option X) (ds : List Done) (d : Done) → gathered gives (ds ++ d ∷ []) ≡ gathered gives ds ++ option_to_list (gives d)

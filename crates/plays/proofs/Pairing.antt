@@ -1,5 +1,5 @@
 -- One entry more beside its answer.
-use Rattle.std.proofs.Common.{◌≡◌, ℕ, ◌+◌, ◌<◌, List, [], ◌∷◌, ◌++◌, map, length, get_or, take, sym, ap, ◌∙◌, subst}
+use Rattle.std.proofs.Common.{◌≡◌, ℕ, ◌+◌, ◌<◌, List, [], ◌∷◌, ◌++◌, map, length, get_or, take, sym, ap, ◌∙◌}
 use Rattle.std.proofs.lemmas.List.{map_more, map_push, take_more}
 use Rattle.journals.specs.declared.reader.Entry.{Entry}
 use Rattle.yard.specs.declared.replays.Answer.{Answer}

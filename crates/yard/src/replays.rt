@@ -107,7 +107,7 @@ pub(crate) fn perform<P: Supply, J: Joint>(
     call: Call,
 ) -> Answer
     requires { vec_len rack.old < vec_capacity rack.old }
-    ensures answer { (made : List Event) × Does (map (means J.Joint.standing J.Joint.verdict) joints.now) (P.Supply.places yard.old.pile) (P.Supply.shows yard.old.pile) yard.old.stamp call (record { rack = rack.entry.now.items; counts = told yard.old.bins }) result made (record { rack = rack.exit.now.items; counts = told yard.new.bins }) }
+    ensures answer { (made : List Event) × Does (map (means J.Joint.standing J.Joint.verdict) joints.now) (P.Supply.places yard.old.pile) (P.Supply.shows yard.old.pile) yard.old.stamp call (record { rack = rack.old.items; counts = told yard.old.bins }) result made (record { rack = rack.new.items; counts = told yard.new.bins }) }
     ensures pile { yard.new.pile ≡ yard.old.pile }
     ensures stamp { yard.new.stamp ≡ yard.old.stamp }
     ensures room { vec_capacity rack.old ≤ vec_capacity rack.new }
@@ -132,7 +132,7 @@ fn draw<P: Supply, J: Joint>(
     number: u32,
 ) -> Answer
     requires { vec_len rack.old < vec_capacity rack.old }
-    ensures answer { (made : List Event) × Draws (P.Supply.shows yard.old.pile) yard.old.stamp (slice_get (map (means J.Joint.standing J.Joint.verdict) joints.now) joint) number (record { rack = rack.entry.now.items; counts = told yard.old.bins }) result made (record { rack = rack.exit.now.items; counts = told yard.new.bins }) }
+    ensures answer { (made : List Event) × Draws (P.Supply.shows yard.old.pile) yard.old.stamp (slice_get (map (means J.Joint.standing J.Joint.verdict) joints.now) joint) number (record { rack = rack.old.items; counts = told yard.old.bins }) result made (record { rack = rack.new.items; counts = told yard.new.bins }) }
     ensures pile { yard.new.pile ≡ yard.old.pile }
     ensures stamp { yard.new.stamp ≡ yard.old.stamp }
     ensures room { vec_capacity rack.old ≤ vec_capacity rack.new }
@@ -152,7 +152,7 @@ fn draw<P: Supply, J: Joint>(
 
 // Takes down what hangs on a hook, puts it to use, and hangs what is left there again.
 fn use_slip<P: Supply>(yard: &mut Yard<P>, rack: &mut Vec<Hook>, hook: usize, way: Use) -> Answer
-    ensures answer { (made : List Event) × OnHook yard.old.stamp way hook (record { rack = rack.entry.now.items; counts = told yard.old.bins }) result made (record { rack = rack.exit.now.items; counts = told yard.new.bins }) }
+    ensures answer { (made : List Event) × OnHook yard.old.stamp way hook (record { rack = rack.old.items; counts = told yard.old.bins }) result made (record { rack = rack.new.items; counts = told yard.new.bins }) }
     ensures pile { yard.new.pile ≡ yard.old.pile }
     ensures stamp { yard.new.stamp ≡ yard.old.stamp }
     ensures room { vec_capacity rack.old ≤ vec_capacity rack.new }

@@ -1,4 +1,4 @@
-use Rattle.std.proofs.Common.{◌≡◌, ◌+◌, length, sym, refl, ap, ◌∙◌, subst, arith}
+use Rattle.std.proofs.Common.{◌≡◌, ◌+◌, length, sym, ap, ◌∙◌, subst, arith}
 use Rattle.std.specs.Str.Iter.{lines_rest}
 use Rattle.texts.specs.Lines.{rest}
 use Rattle.texts.proofs.Shorter.{shorter}

@@ -1,5 +1,5 @@
 -- An empty word has no plus in front.
-use Rattle.std.proofs.Common.{◌≡◌, length, get_or, arith, rules}
+use Rattle.std.proofs.Common.{arith, rules}
 use Rattle.std.proofs.lemmas.List.{get_or_past}
 use Rattle.texts.proofs.values.plus_first.Goals as goal
 

@@ -1,5 +1,5 @@
 -- Each way adds a line to its own block.
-use Rattle.std.proofs.Common.{◌≡◌, ℕ, List, codes, sym, refl, ap, ◌∙◌, subst, rules}
+use Rattle.std.proofs.Common.{◌≡◌, ℕ, List, codes, sym, ap, ◌∙◌, subst, rules}
 use Rattle.supplies.specs.declared.list.Row.{Row}
 use Rattle.texts.specs.Lines.{rest}
 use Rattle.texts.specs.declared.line.Line.{Line}

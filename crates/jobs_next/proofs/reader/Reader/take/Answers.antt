@@ -1,4 +1,4 @@
-use Rattle.std.proofs.Common.{◌≡◌, sym, ap, subst}
+use Rattle.std.proofs.Common.{sym, subst}
 use Rattle.texts.specs.Lines.{Blank, rest}
 use Rattle.texts.specs.declared.line.Line.{Line}
 use Rattle.jobs_next.specs.Texts.{Opened, Step, blank, opener, key, state}

@@ -1,4 +1,4 @@
-use Rattle.std.proofs.Common.{◌≡◌, refl, ◌∙◌, arith, length-set}
+use Rattle.std.proofs.Common.{refl, ◌∙◌, arith, length-set}
 use lib.ListN.{length-replicate}
 use Rattle.texts.specs.Lines.{rest}
 use Rattle.texts.proofs.Longer.{longer}
