@@ -1,10 +1,10 @@
 #!/usr/bin/env python3
 """An independent reading of docs/RULES.md, used to make test texts with their expected answers.
 
-    tools/oracle.py limits DIR    a job text on both sides of every limit, and what `bench judge` answers
-    tools/oracle.py random DIR N  N random joints over a list under layers, and what `bench choose` answers
-    tools/oracle.py whys DIR      random joints over a coil under layers, and what `bench explain` answers
-    tools/oracle.py ranges DIR    each number of a card at the ends of its range, as the program `ranges` has it
+    tools/oracle_next.py limits DIR    a job text on both sides of every limit, and what `bench_next judge` answers
+    tools/oracle_next.py random DIR N  N random joints over a list under layers, and what `bench_next choose` answers
+    tools/oracle_next.py whys DIR      random joints over a coil under layers, and what `bench_next explain` answers
+    tools/oracle_next.py ranges DIR    each number of a card at the ends of its range, as the program `ranges` has it
 
 Each writes DIR/stdout and, where there is a text, DIR/stdin. It shares no code with the engine and computes the
 sines with the C library's, so that the two can only agree by both being right.
@@ -275,7 +275,7 @@ def block(name, values):
 
 
 def text(job):
-    lines = ["# made by tools/oracle.py"]
+    lines = ["# made by tools/oracle_next.py"]
     for c in job["cards"]:
         lines += block("card", c)
     for m in job["members"]:

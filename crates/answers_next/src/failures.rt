@@ -40,14 +40,14 @@ impl fmt::Display for Source {
 impl fmt::Display for Failure {
     fn fmt<W: fmt::Write>(&self, f: &mut fmt::Formatter<W>) -> fmt::Result {
         match self {
-            Failure::Usage => f.write_str("usage: bench choose|judge|explain|explain-csv [FILE]"),
+            Failure::Usage => f.write_str("usage: bench_next choose|judge|explain|explain-csv [FILE]"),
             Failure::Input { source, error } => write!(f, "{source}: {error}"),
             Failure::Text { source, fault } => match fault {
                 Fault::Format { line, mismatch } => write!(f, "{source}:{line}: {mismatch}"),
                 Fault::Memory => write!(f, "{source}: out of memory"),
             },
-            Failure::Output(error) => write!(f, "bench: {error}"),
-            Failure::Memory => f.write_str("bench: out of memory"),
+            Failure::Output(error) => write!(f, "bench_next: {error}"),
+            Failure::Memory => f.write_str("bench_next: out of memory"),
         }
     }
 }
