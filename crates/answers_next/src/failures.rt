@@ -40,7 +40,9 @@ impl fmt::Display for Source {
 impl fmt::Display for Failure {
     fn fmt<W: fmt::Write>(&self, f: &mut fmt::Formatter<W>) -> fmt::Result {
         match self {
-            Failure::Usage => f.write_str("usage: bench_next choose|judge|explain|explain-csv [FILE]"),
+            Failure::Usage => f.write_str(
+                "usage: bench_next choose|judge|explain|explain-csv [FILE]",
+            ),
             Failure::Input { source, error } => write!(f, "{source}: {error}"),
             Failure::Text { source, fault } => match fault {
                 Fault::Format { line, mismatch } => write!(f, "{source}:{line}: {mismatch}"),
