@@ -1,9 +1,12 @@
 #!/usr/bin/env python3
 """An independent reading of docs/RULES.md, used to make test texts with their expected answers.
 
-    tools/oracle.py limits DIR    a job text on both sides of every limit, and what `bench judge` answers
-    tools/oracle.py random DIR N  N random web joints, and what `bench choose` answers
-    tools/oracle.py ranges DIR    each number of a card at the ends of its range, as the program `ranges` has it
+    tools/oracle.py limits DIR         a job text on both sides of every limit, and what `bench judge` answers
+    tools/oracle.py random DIR N       N random web joints, and what `bench choose` answers
+    tools/oracle.py ranges DIR         each number of a card at the ends of its range, as the program `ranges` has it
+    tools/oracle.py limits_next DIR    as limits, with heels and splices, and what `bench_next judge` answers
+    tools/oracle.py random_next DIR N  N random joints over a list under layers, and what `bench_next choose` answers
+    tools/oracle.py whys DIR           random joints over a coil under layers, and what `bench_next explain` answers
 
 Each writes DIR/stdout and, where there is a text, DIR/stdin. It shares no code with the engine and computes the
 sines with the C library's, so that the two can only agree by both being right.
@@ -12,6 +15,7 @@ import math
 import random
 import sys
 from copy import deepcopy
+from fractions import Fraction
 
 SINE = [int(10000 * math.sin(math.radians(a)) ** 2 + 0.5) for a in range(91)]
 DEPTHS = [64, 89, 114, 140, 184, 235, 286]
@@ -22,13 +26,17 @@ KSF = {"dry": 100, "unseasoned": 80, "wet": 67}
 WORDS = {"A": "the sheet does not allow the turning", "B": "the family has no card",
          "C": "the teeth are too long for the wood", "D": "the bite", "E": "the bite across the grain",
          "F": "the resistance of the teeth", "G": "the steel in tension", "H": "the steel in shear",
-         "I": "the slip of the teeth"}
+         "I": "the slip of the teeth", "J": "the extent of the splice plate",
+         "K": "the moment in the steel of the splice"}
 GROUNDS = {1: "a number of the sheet lies outside its range",
            2: "the members run past the list, or number none or over six",
            (3, "member"): "a number of the member lies outside its range",
            (3, "family"): "a number of the card lies outside its range",
            4: "the field of the member is empty",
            8: "nothing fits, no plate of the list passes in either turning"}
+# what `bench_next` says in place of these
+FULLER = {2: "the members run past the list, or number none, over six, or in a splice not two",
+          8: "nothing fits, no plate shown passes in either turning"}
 
 
 class Refused(Exception):
@@ -51,10 +59,16 @@ def member_right(m):
 
 
 def stand(job, sheet):
-    if not within(1, sheet["truss"], 30500):
+    right = within(1, sheet["truss"], 30500)
+    if "slope" in sheet:
+        right = right and all(within(1, v, 10000) for v in sheet["slope"])
+    if "moment" in sheet:
+        right = right and sheet["moment"] <= 20000000 and within(1, sheet["wood"], 400)
+    if not right:
         raise Refused(1, "sheet", 0)
     first, count = sheet["members"]
-    if count < 1 or count > 6 or first + count > len(job["members"]):
+    few = count == 2 if "moment" in sheet else within(1, count, 6)
+    if not few or first + count > len(job["members"]):
         raise Refused(2, "sheet", 0)
     own = range(first, first + count)
     for i in own:
@@ -87,7 +101,19 @@ def setback(mark, tooth):
     return {"plain": 0, "edge": max(6, math.ceil(tooth / 4)), "end": max(12, math.ceil(tooth / 2))}[mark]
 
 
-def verdict(job, sheet, own, plate, turned, factor=100):
+def heel_factor(sheet):
+    rise, run = sheet["slope"]
+    slope = Fraction(rise, run)
+    if sheet.get("rule", "table") == "formula":
+        return max(65, min(85, 95 - math.ceil(60 * slope)))
+    for limit, factor in ((Fraction(1, 4), 85), (Fraction(1, 3), 80), (Fraction(5, 12), 75)):
+        if slope < limit:
+            return factor
+    return 70 if slope <= Fraction(5, 11) else 65
+
+
+def verdict(job, sheet, own, plate, turned):
+    factor = heel_factor(sheet) if "slope" in sheet else 100
     w, l, family = plate
     if sheet["turnings"] == ("unturned" if turned else "turned"):
         return "A", 0
@@ -148,6 +174,18 @@ def verdict(job, sheet, own, plate, turned, factor=100):
         for i, m in enumerate(own):
             if not test(m):
                 return letter, i + 1
+    if "moment" in sheet:
+        m, b, c = own[0], 38, sheet["wood"]
+        across = "y" if m["grain"] == "x" else "x"
+        if 100 * (ex if across == "x" else ey) < 65 * m["depth"]:
+            return "J", 0
+        w, d = full(m, across), m["depth"]
+        t = (card["tension"][0] * (90 - angle(m)) + card["tension"][1] * angle(m)) // 90
+        pull = m["normal"] if m["force"] == "tension" else 0
+        y = math.floor(Fraction(100 * (b * d * c + 74 * pull - 20 * w * t), 40 * t + 2 * b * c))
+        held = 270 * t * (50 * w + y) ** 2 + 18 * b * c * (50 * d - y) ** 2 - 10 ** 5 * pull * y
+        if sheet["moment"] != 0 and not (-50 * w <= y <= 50 * w and 10 ** 7 * sheet["moment"] <= held):
+            return "K", 0
     return None
 
 
@@ -155,11 +193,28 @@ def exists(row):
     return within(20, row[0], 300) and within(20, row[1], 1000) and within(0, row[2], 15)
 
 
+def pile(job):
+    """What is shown at each place."""
+    if "coil" in job:
+        coil = job["coil"]
+        rows = [[w, coil["first"] + i * coil["step"], coil["family"]] for w in coil["widths"] for i in range(min(64, coil["steps"]))]
+    else:
+        rows = job["rows"]
+    shown = [r if exists(r) else None for r in rows]
+    for name, layer in job.get("layers", ()):
+        for place, r in enumerate(shown):
+            if name == "strike" and place in layer["places"]:
+                shown[place] = None
+            if name == "press" and r and (r[0] > layer["width"] or r[1] > layer["length"]):
+                shown[place] = None
+    return shown
+
+
 def choose(job, sheet):
     own = stand(job, sheet)
     best = None
-    for place, row in enumerate(job["rows"]):
-        if not exists(row):
+    for place, row in enumerate(pile(job)):
+        if row is None:
             continue
         for turned in (False, True):
             if verdict(job, sheet, own, row, turned) is None:
@@ -170,9 +225,10 @@ def choose(job, sheet):
     return best
 
 
-def refusal(number, e):
+def refusal(job, number, e):
     n, thing, position = e.args
-    words = GROUNDS[(3, thing)] if n == 3 else GROUNDS[n]
+    grounds = {**GROUNDS, **FULLER} if job["fuller"] else GROUNDS
+    words = grounds[(3, thing)] if n == 3 else grounds[n]
     return f"sheet {number} refused {n} {thing} {position}: {words}"
 
 
@@ -180,7 +236,7 @@ def judge_line(job, number, sheet):
     try:
         own = stand(job, sheet)
     except Refused as e:
-        return refusal(number, e)
+        return refusal(job, number, e)
     *plate, turning = sheet["try"]
     missed = verdict(job, sheet, own, plate, turning == "turned")
     if missed is None:
@@ -192,16 +248,34 @@ def choose_line(job, number, sheet):
     try:
         area, place, turned = choose(job, sheet)
     except Refused as e:
-        return refusal(number, e)
-    w, l, family = job["rows"][place]
+        return refusal(job, number, e)
+    w, l, family = pile(job)[place]
     turning = "turned" if turned else "unturned"
-    return f"sheet {number} place {place} {turning} {w} x {l} family {family} area {area} asked {len(job['rows'])}"
+    return f"sheet {number} place {place} {turning} {w} x {l} family {family} area {area} asked {len(pile(job))}"
+
+
+def explain_lines(job, number, sheet):
+    try:
+        own = stand(job, sheet)
+    except Refused as e:
+        return [refusal(job, number, e)]
+    lines, counts = [], dict.fromkeys("ABCDEFGHIJK", 0)
+    for place, row in enumerate(pile(job)):
+        for turned in (False, True) if row else ():
+            missed = verdict(job, sheet, own, row, turned)
+            turning = "turned" if turned else "unturned"
+            told = f"misses {missed[0]} member {missed[1]}: {WORDS[missed[0]]}" if missed else "passes"
+            lines.append(f"sheet {number} place {place} {turning} {row[0]} x {row[1]} family {row[2]} {told}")
+            if missed:
+                counts[missed[0]] += 1
+    stopped = " ".join(f"{k} {v}" for k, v in counts.items())
+    return lines + [f"sheet {number} stopped {stopped} passed {len(lines) - sum(counts.values())}"]
 
 
 def block(name, values):
     lines = [name]
     for k, v in values.items():
-        if k != "note":
+        if k not in ("note", "kind"):
             lines.append("  " + k + " " + " ".join(map(str, v if isinstance(v, (list, tuple)) else [v])))
     return lines
 
@@ -215,10 +289,14 @@ def text(job):
     for s in job["sheets"]:
         if "note" in s:
             lines.append("# " + s["note"])
-        lines += block("web", s)
+        lines += block(s.get("kind", "web"), s)
+    if "coil" in job:
+        lines += block("coil", job["coil"])
     if job["rows"]:
         lines.append("list")
         lines += ["  plate " + " ".join(map(str, r)) for r in job["rows"]]
+    for name, layer in job.get("layers", ()):
+        lines += block(name, layer)
     return "\n".join(lines) + "\n"
 
 
@@ -231,9 +309,9 @@ SHEET = {"members": [0, 1], "truss": 12000, "duration": "standard", "service": "
          "turnings": "either", "try": [200, 200, 0, "unturned"]}
 
 
-def limits():
+def limits(fuller):
     """Joints that differ in one number, on both sides of each limit."""
-    job = {"cards": [], "members": [], "sheets": [], "rows": []}
+    job = {"cards": [], "members": [], "sheets": [], "rows": [], "fuller": fuller}
     for tooth in (9, 19, 20, 40, 1):
         job["cards"].append({**deepcopy(CARD), "tooth": tooth})
     job["cards"].append({"teeth": [10] * 4, "slip": [20000] * 4, "tension": [1, 2000], "shear": [2000, 1, 1, 1, 1, 1], "tooth": 1})
@@ -309,8 +387,67 @@ def limits():
         case(f"member {count} of 3 misses", {}, {}, [{"cross": 200000 if k == count else 0, "field": [-100, 100, 0, 50]} for k in (2, 3)])
     case("bite of member 2 before the teeth of member 1", {"normal": 200000}, {}, [{"field": [0, 1, 0, 1]}])
     case("teeth of member 2 before the slip of member 1", {"specified": 200000}, {}, [{"normal": 200000}])
+    if fuller:
+        heels(case, both)
+        splices(case, both)
     answers = [judge_line(job, i + 1, s) for i, s in enumerate(job["sheets"])]
     return job, answers
+
+
+def top_load(member, sheet, key, other=()):
+    """The greatest load under which the plate of the sheet passes, found by search on the rules above."""
+    *plate, turning = sheet["try"]
+
+    def passes(v):
+        own = [{**deepcopy(MEMBER), **m} for m in ({**member, key: v}, *other)]
+        return verdict({"cards": [deepcopy(CARD)]}, {**SHEET, **sheet}, own, plate, turning == "turned") is None
+    return max(v for v in range(0, 60000) if passes(v))
+
+
+def heels(case, both):
+    """Each slope limit: the load that the factor allows, and one more, just under, at and over the limit."""
+    member = {"depth": 89, "field": [-37, 60, -45, 41], "force": "compression"}
+    slopes = [(2499, 10000), (1, 4), (2501, 10000), (3333, 10000), (1, 3), (3334, 10000), (4166, 10000), (5, 12), (4167, 10000),
+              (4545, 10000), (5, 11), (4546, 10000), (1, 6), (1, 2), (10000, 1), (1, 10000), (1, 7), (3, 10)]
+    for slope in slopes:
+        for rule in ("table", "formula", None):
+            sheet = {"kind": "heel", "slope": list(slope), "try": [101, 127, 0, "unturned"]}
+            if rule:
+                sheet["rule"] = rule
+            top = top_load(member, sheet, "normal")
+            for v in (top, top + 1):
+                case(f"heel of {slope[0]}/{slope[1]}, {rule or 'no rule'}, normal {v}", {**member, "normal": v}, sheet)
+    for i in (0, 1):
+        for low, high in ((1, 0), (10000, 10001)):
+            both(f"slope number {i} at {low}", lambda v, i=i: ({}, {"kind": "heel", "slope": [v, 5] if i == 0 else [5, v]}), low, high)
+
+
+def splices(case, both):
+    """The extent, the axis on either side of the centre line and of the plate's edges, and the greatest moment."""
+    sheet = {"kind": "splice", "moment": 0, "wood": 100, "try": [101, 127, 0, "unturned"]}
+    other = [{"depth": 89}]
+    both("moment 20000000", lambda v: ({}, {**sheet, "moment": v}, other), 20000000, 20000001)
+    both("wood 1", lambda v: ({}, {**sheet, "wood": v}, other), 1, 0)
+    both("wood 400", lambda v: ({}, {**sheet, "wood": v}, other), 400, 401)
+    for count in (1, 2, 3):
+        case(f"splice of {count} members", {}, sheet, [{}] * (count - 1))
+    both("extent of 65 hundredths of the depth", lambda v: ({"depth": 140}, {**sheet, "try": [v, 200, 0, "unturned"]}, other), 91, 90)
+    both("the same across x", lambda v: ({"depth": 140, "grain": "y"}, {**sheet, "try": [200, v, 0, "unturned"]}, other), 91, 90)
+    case("the plate's extent, not the contact side", {"depth": 140, "field": [-100, 100, -26, 26]}, sheet, other)
+    for force in ("tension", "compression"):
+        for normal in (0, 700, 4000):
+            for wood in (1, 20, 150, 400):
+                for turning in ("unturned", "turned"):
+                    member = {"depth": 89, "force": force, "normal": normal, "field": [-60, 60, -45, 45]}
+                    at = {**sheet, "wood": wood, "try": [120, 127, 0, turning]}
+                    low, high = 0, 20000001
+                    while high - low > 1:
+                        mid = (low + high) // 2
+                        m = [{**deepcopy(MEMBER), **member}, {**deepcopy(MEMBER), **other[0]}]
+                        ok = verdict({"cards": [deepcopy(CARD)]}, {**SHEET, **at, "moment": mid}, m, (120, 127, 0), turning == "turned") is None
+                        low, high = (mid, high) if ok else (low, mid)
+                    for v in (low, low + 1):
+                        case(f"moment {v}, {force} of {normal}, wood {wood}, {turning}", member, {**at, "moment": v}, other)
 
 
 def greatest(case):
@@ -336,9 +473,22 @@ def greatest(case):
                     case(f"{key} {v} in {force}, {area}, {turning}", {**member, key: v}, sheet)
 
 
-def random_job(count, seed=1):
+def random_kind(r, count):
+    """What makes the sheet of so many members a heel or a splice, if it is one."""
+    kind = r.choice(("web", "heel", "splice"))
+    if kind == "heel":
+        own = {"slope": [r.randint(1, 12), r.randint(8, 24)]}
+        if r.random() < 0.6:
+            own["rule"] = r.choice(("table", "formula"))
+        return {**own, "kind": kind}
+    if kind == "splice" and count == 2:
+        return {"moment": r.choice((0, r.randint(0, 500000), r.randint(0, 3000000))), "wood": r.randint(1, 400), "kind": kind}
+    return {"kind": "web"}
+
+
+def random_job(count, fuller, seed=1):
     r = random.Random(seed)
-    job = {"cards": [], "members": [], "sheets": [], "rows": []}
+    job = {"cards": [], "members": [], "sheets": [], "rows": [], "fuller": fuller}
     for _ in range(5):
         job["cards"].append({"teeth": [r.randint(800, 3000) for _ in range(4)], "slip": [r.randint(800, 3000) for _ in range(4)],
                              "tension": [r.randint(50, 400) for _ in range(2)], "shear": [r.randint(50, 400) for _ in range(6)],
@@ -359,10 +509,28 @@ def random_job(count, seed=1):
                 "species": r.choice(("spruce", "douglas")), "grain": r.choice("xy"), "interface": r.choice("xy"),
                 "field": [x0, x0 + r.randint(60, 200), y0, y0 + r.randint(60, 200)],
                 "marks": [r.choice(("plain", "edge", "end")) for _ in range(4)]})
-        job["sheets"].append({"members": [first, n], "truss": r.randint(3000, 20000), "duration": r.choice(list(KD)),
-                              "service": r.choice(list(KSF)), "area": r.choice(("net", "gross")),
-                              "turnings": r.choice(("unturned", "turned", "either", "either"))})
+        sheet = {"members": [first, n], "truss": r.randint(3000, 20000), "duration": r.choice(list(KD)),
+                 "service": r.choice(list(KSF)), "area": r.choice(("net", "gross")),
+                 "turnings": r.choice(("unturned", "turned", "either", "either"))}
+        job["sheets"].append({**sheet, **(random_kind(r, n) if fuller else {})})
+    return job
+
+
+def many(count, fuller):
+    job = random_job(count, fuller)
+    if fuller:
+        job["layers"] = [("press", {"width": 152, "length": 254}), ("strike", {"places": [3, 7, 7, 60, 4000]}),
+                         ("press", {"width": 203, "length": 250})]
     return job, [choose_line(job, i + 1, s) for i, s in enumerate(job["sheets"])]
+
+
+def whys():
+    job = random_job(8, True, seed=7)
+    job["rows"] = []
+    job["coil"] = {"family": next(i for i, c in enumerate(job["cards"]) if c["tooth"] < 19), "widths": [51, 76, 102, 301, 152], "first": 76, "step": 51, "steps": 5}
+    job["layers"] = [("strike", {"places": [0, 6, 24, 25]}), ("press", {"width": 200, "length": 255})]
+    job["sheets"].append({**job["sheets"][0], "truss": 0})
+    return job, [line for i, s in enumerate(job["sheets"]) for line in explain_lines(job, i + 1, s)]
 
 
 def ranges():
@@ -387,7 +555,11 @@ def main():
         with open(folder + "/stdout", "w") as f:
             f.write("\n".join(ranges()) + "\n")
         return
-    job, answers = limits() if kind == "limits" else random_job(int(rest[0]))
+    fuller = kind.endswith("_next")
+    if kind == "whys":
+        job, answers = whys()
+    else:
+        job, answers = limits(fuller) if kind.startswith("limits") else many(int(rest[0]), fuller)
     with open(folder + "/stdin", "w") as f:
         f.write(text(job))
     with open(folder + "/stdout", "w") as f:

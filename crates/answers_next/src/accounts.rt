@@ -50,7 +50,7 @@ const CLAUSES: [Clause; 11] = [
 const HEADER: &str = "sheet,place,width,length,family,turning,letter,member,words";
 
 // The account of every sheet, in the order of the text.
-pub fn explain_all(rt: &HostRuntime, job: &Job, form: Form) -> Result<(), Failure> {
+pub(crate) fn explain_all(rt: &HostRuntime, job: &Job, form: Form) -> Result<(), Failure> {
     if let Form::Csv = form {
         println!(rt; "{HEADER}")?;
     }

@@ -102,7 +102,7 @@ fn reason(refusal: Refusal) -> &'static str {
     }
 }
 
-pub fn missed(clause: Clause) -> &'static str {
+pub(crate) fn missed(clause: Clause) -> &'static str {
     match clause {
         Clause::Turning => "the sheet does not allow the turning",
         Clause::Card => "the family has no card",

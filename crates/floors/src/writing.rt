@@ -1,23 +1,37 @@
 // The answers and the lists, a line each.
+ghost use Rattle.std.specs.Prelude.{◌≡◌, ◌+◌, ◌^◌, ◌<◌, ℕ, Some, None};
+ghost use Rattle.plays.specs.Fates.{slip_of};
+ghost use Rattle.plays.specs.Lists.{drawn_by};
+ghost use Rattle.yard.specs.declared.slips.SlipNumbers.{SlipNumbers};
+
 use answers_next::{Told, turning_word};
+use journals::Verb;
 use plates::{Plate, Refusal, Supply};
+use plays::fates::{Fate, fate_of, slip_of};
 use plays::{Done, PressLine};
 use std::io;
 use yard::{Answer, Bin, Call, OpenSlip, SlipNumbers, Yard};
 
 // Each call's answer, in the order of the journal; slips are counted from 1.
-pub fn write_answers<P: Supply>(rt: &HostRuntime, pile: &P, all: &[Done]) -> io::Result<()> {
+pub(crate) fn write_answers<P: Supply>(rt: &HostRuntime, pile: &P, all: &[Done]) -> io::Result<()> {
     let mut slips: usize = 0;
     for done in all.iter() {
-        if let Answer::Drawn(drawn) = done.answer {
-            if drawn.is_ok() {
-                slips = slips.saturating_add(1);
-            }
-        }
-        print!(rt; "line {} {}: ", done.line, verb(done.call))?;
+        slips = slips_after(slips, done);
+        print!(rt; "line {} {}: ", done.line, Verb::of(done.call).word())?;
         write_answer(rt, pile, done, slips)?;
     }
     Ok(())
+}
+
+// One more where the call drew a slip.
+fn slips_after(slips: usize, done: &Done) -> usize
+    ensures none { drawn_by done.now ≡ None → result ≡ slips }
+    ensures one { (s : SlipNumbers) → drawn_by done.now ≡ Some s → slips + 1 < 2 ^ 64 → result ≡ slips + 1 }
+{
+    match fate_of(done.answer) {
+        Fate::Drawn(_) => slips.saturating_add(1),
+        _ => slips,
+    }
 }
 
 fn write_answer<P: Supply>(
@@ -85,7 +99,7 @@ fn write_told(rt: &HostRuntime, told: Result<Bin, Refusal>) -> io::Result<()> {
 }
 
 // The places that have pairs on hand or out.
-pub fn write_bins<P: Supply>(rt: &HostRuntime, pile: &P, yard: &Yard<P>) -> io::Result<()> {
+pub(crate) fn write_bins<P: Supply>(rt: &HostRuntime, pile: &P, yard: &Yard<P>) -> io::Result<()> {
     println!(rt; "bins")?;
     for place in 0..256 {
         if let Ok(bin) = yard.tell(place) {
@@ -105,7 +119,11 @@ fn write_bin(rt: &HostRuntime, place: u32, plate: Option<Plate>, bin: Bin) -> io
     println!(rt; " on hand {on_hand} out {out}")
 }
 
-pub fn write_presses<P: Supply>(rt: &HostRuntime, pile: &P, list: &[PressLine]) -> io::Result<()> {
+pub(crate) fn write_presses<P: Supply>(
+    rt: &HostRuntime,
+    pile: &P,
+    list: &[PressLine],
+) -> io::Result<()> {
     println!(rt; "press list")?;
     for pressing in list.iter() {
         let numbers = pressing.numbers;
@@ -124,7 +142,11 @@ pub fn write_presses<P: Supply>(rt: &HostRuntime, pile: &P, list: &[PressLine]) 
     Ok(())
 }
 
-pub fn write_open<P: Supply>(rt: &HostRuntime, pile: &P, open: &[OpenSlip]) -> io::Result<()> {
+pub(crate) fn write_open<P: Supply>(
+    rt: &HostRuntime,
+    pile: &P,
+    open: &[OpenSlip],
+) -> io::Result<()> {
     println!(rt; "open slips")?;
     for slip in open.iter() {
         let numbers = slip.numbers;
@@ -155,28 +177,13 @@ fn write_plate(rt: &HostRuntime, plate: Option<Plate>) -> io::Result<()> {
     }
 }
 
-fn verb(call: Call) -> &'static str {
-    match call {
-        Call::Receive { place: _, pairs: _ } => "receive",
-        Call::Draw {
-            joint: _,
-            number: _,
-        } => "draw",
-        Call::Tack { slip: _ } => "tack",
-        Call::HandBack { slip: _ } => "back",
-        Call::Press { slip: _ } => "press",
-        Call::Void { slip: _ } => "void",
-        Call::Tell { place: _ } => "tell",
-    }
-}
-
-// The number of the slip that a call names; 0 where it names none.
-fn number_of(call: Call) -> usize {
-    match call {
-        Call::Tack { slip } => slip.saturating_add(1),
-        Call::HandBack { slip } => slip.saturating_add(1),
-        Call::Press { slip } => slip.saturating_add(1),
-        Call::Void { slip } => slip.saturating_add(1),
-        _ => 0,
+// The number of the slip that a call names, from 1; 0 where it names none.
+fn number_of(call: Call) -> usize
+    ensures none { slip_of call ≡ None → result ≡ 0 }
+    ensures named { (i : ℕ) → slip_of call ≡ Some i → i + 1 < 2 ^ 64 → result ≡ i + 1 }
+{
+    match slip_of(call) {
+        Some(slip) => slip.saturating_add(1),
+        None => 0,
     }
 }

@@ -10,3 +10,4 @@ pub mod verbs;
 
 pub use calls::call_of;
 pub use reader::{Entry, read};
+pub use verbs::Verb;

@@ -1,8 +1,11 @@
 // The verbs of a journal.
+ghost use Rattle.std.specs.Prelude.{◌≡◌};
 ghost use Rattle.texts.specs.Words.{Named};
+ghost use Rattle.journals.specs.Says.{verb_of};
 ghost use Rattle.journals.specs.Verbs.{verb_word};
 
 use texts::{Expected, Value};
+use yard::Call;
 
 #[derive(Clone, Copy)]
 pub enum Verb {
@@ -13,6 +16,40 @@ pub enum Verb {
     Press,
     Void,
     Tell,
+}
+
+impl Verb {
+    // The verb that a call is written with.
+    pub fn of(call: Call) -> Verb
+        ensures { result ≡ verb_of call }
+    {
+        match call {
+            Call::Receive { place: _, pairs: _ } => Verb::Receive,
+            Call::Draw {
+                joint: _,
+                number: _,
+            } => Verb::Draw,
+            Call::Tack { slip: _ } => Verb::Tack,
+            Call::HandBack { slip: _ } => Verb::Back,
+            Call::Press { slip: _ } => Verb::Press,
+            Call::Void { slip: _ } => Verb::Void,
+            Call::Tell { place: _ } => Verb::Tell,
+        }
+    }
+
+    pub fn word(self) -> &'static str
+        ensures { result.now ≡ verb_word self }
+    {
+        match self {
+            Verb::Receive => "receive",
+            Verb::Draw => "draw",
+            Verb::Tack => "tack",
+            Verb::Back => "back",
+            Verb::Press => "press",
+            Verb::Void => "void",
+            Verb::Tell => "tell",
+        }
+    }
 }
 
 impl Value for Verb {

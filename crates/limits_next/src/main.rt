@@ -1,4 +1,4 @@
-// Answers joints on both sides of every limit; tools/oracle_next.py made the text and the expected answers.
+// Answers joints on both sides of every limit; tools/oracle.py made the text and the expected answers.
 #![tactic(auto)]
 
 use answers_next::{Command, Source, answer};

@@ -1,4 +1,4 @@
-// Answers many random joints; tools/oracle_next.py made the text and the expected answers.
+// Answers many random joints; tools/oracle.py made the text and the expected answers.
 #![tactic(auto)]
 
 use answers_next::{Command, Source, answer};

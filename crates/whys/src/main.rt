@@ -1,4 +1,4 @@
-// Explains joints over a coil cutter; tools/oracle_next.py made the text and the expected answers.
+// Explains joints over a coil cutter; tools/oracle.py made the text and the expected answers.
 #![tactic(auto)]
 
 use answers_next::{Command, Form, Source, answer};

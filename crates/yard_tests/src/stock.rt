@@ -96,7 +96,7 @@ pub const UNLAWFUL: Asks = Asks {
 };
 
 // The number of the refusal, or 0.
-pub fn number<T: Drop>(answer: Result<T, Refusal>) -> u8 {
+pub(crate) fn number<T: Drop>(answer: Result<T, Refusal>) -> u8 {
     match answer {
         Ok(_) => 0,
         Err(refusal) => refusal.number(),
@@ -104,7 +104,7 @@ pub fn number<T: Drop>(answer: Result<T, Refusal>) -> u8 {
 }
 
 // The pairs on hand and out at a place of the yard.
-pub fn told<P: Supply>(yard: &Yard<P>, place: u32) -> Option<(u32, u32)> {
+pub(crate) fn told<P: Supply>(yard: &Yard<P>, place: u32) -> Option<(u32, u32)> {
     match yard.tell(place) {
         Ok(bin) => Some((bin.on_hand(), bin.out())),
         Err(_) => None,
