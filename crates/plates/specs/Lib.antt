@@ -1,3 +1,4 @@
 pub mod Size
 pub mod Refusals
+pub mod Turnings
 pub mod Verdicts

@@ -2,6 +2,8 @@
 ghost use Rattle.std.specs.Prelude.{◌≡◌};
 ghost use Rattle.plates.specs.Refusals.{refusal_number, refusal_thing, refusal_position};
 
+use std::fmt;
+
 // Why a call was turned away. The index of a member or a card is the one in the caller's list.
 #[derive(Clone, Copy, PartialEq, Eq, Debug)]
 pub enum Refusal {
@@ -38,6 +40,19 @@ pub enum Thing {
     Place,
     Book,
     Slip,
+}
+
+impl fmt::Display for Thing {
+    fn fmt<W: fmt::Write>(&self, f: &mut fmt::Formatter<W>) -> fmt::Result {
+        f.write_str(match self {
+            Thing::Sheet => "sheet",
+            Thing::Member => "member",
+            Thing::Family => "family",
+            Thing::Place => "place",
+            Thing::Book => "book",
+            Thing::Slip => "slip",
+        })
+    }
 }
 
 impl Refusal {

@@ -2,6 +2,8 @@
 ghost use Rattle.std.specs.Prelude.{◌≡◌};
 ghost use Rattle.plates.specs.Verdicts.{letter, member, passes};
 
+use std::fmt;
+
 // The clauses, in the order in which they are tried; each is known by its letter.
 #[derive(Clone, Copy, PartialEq, Eq, Debug)]
 pub enum Clause {
@@ -54,6 +56,25 @@ impl Clause {
             Clause::Extent => 'J',
             Clause::Moment => 'K',
         }
+    }
+}
+
+// What a plate misses that misses the clause.
+impl fmt::Display for Clause {
+    fn fmt<W: fmt::Write>(&self, f: &mut fmt::Formatter<W>) -> fmt::Result {
+        f.write_str(match self {
+            Clause::Turning => "the sheet does not allow the turning",
+            Clause::Card => "the family has no card",
+            Clause::Teeth => "the teeth are too long for the wood",
+            Clause::Bite => "the bite",
+            Clause::CrossGrain => "the bite across the grain",
+            Clause::Grip => "the resistance of the teeth",
+            Clause::Tension => "the steel in tension",
+            Clause::Shear => "the steel in shear",
+            Clause::Slip => "the slip of the teeth",
+            Clause::Extent => "the extent of the splice plate",
+            Clause::Moment => "the moment in the steel of the splice",
+        })
     }
 }
 
