@@ -18,8 +18,6 @@ use Rattle.rules.specs.declared.terms.Turnings.{Turnings}
 use Rattle.rules.specs.declared.terms.Turnings.TheVariants.{UnturnedOnly, TurnedOnly, Either}
 use Rattle.rules.specs.declared.heels.FactorRule.{FactorRule}
 use Rattle.rules.specs.declared.heels.FactorRule.TheVariants.{Table, Formula}
-use Rattle.plates.specs.declared.turnings.Turning.{Turning}
-use Rattle.plates.specs.declared.turnings.Turning.TheVariants.{Unturned, Turned}
 
 -- the value whose word this is; nothing where no value has this word
 abbrev pub Named : {X : Type 0} → (X → List ℕ) → List ℕ → Option X → Type 0
@@ -60,10 +58,6 @@ abbrev pub turnings_word : Turnings → List ℕ
 turnings_word UnturnedOnly = codes "unturned"
 turnings_word TurnedOnly = codes "turned"
 turnings_word Either = codes "either"
-
-abbrev pub turning_word : Turning → List ℕ
-turning_word Unturned = codes "unturned"
-turning_word Turned = codes "turned"
 
 abbrev pub rule_word : FactorRule → List ℕ
 rule_word Table = codes "table"

@@ -14,6 +14,8 @@ pub enum Found {
 
 #[derive(Clone, Copy, Debug)]
 pub enum Expected {
+    // the opener of one of these blocks
+    Block(&'static str),
     // a key of the block that is open, or the next block
     KeyOf {
         block: &'static str,
@@ -76,6 +78,7 @@ impl fmt::Display for Found {
 impl fmt::Display for Expected {
     fn fmt<W: fmt::Write>(&self, f: &mut fmt::Formatter<W>) -> fmt::Result {
         match *self {
+            Expected::Block(blocks) => write!(f, "a block: {blocks}"),
             Expected::KeyOf { block, keys } => write!(f, "a key of a {block}: {keys}"),
             Expected::Lacking(key) => write!(f, "the key {key} before the block ends"),
             Expected::Once(key) => write!(f, "the key {key} only once in its block"),

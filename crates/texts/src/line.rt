@@ -77,20 +77,17 @@ impl<'a> Line<'a> {
         ensures number { self.new.number ≡ self.old.number }
         ensures value { MatchResult result (λ v. Taken T.Value.reads (rest self.old) v (rest self.new)) (λ f. At self.old.number f) }
     {
-        let Some(word) = self.word() else {
-            return Err(self.fault(Found::EndOfLine, T::expected()));
-        };
-        self.meant(word)
+        match self.word() {
+            Some(word) => self.meant(word),
+            None => Err(self.fault(Found::EndOfLine, T::expected())),
+        }
     }
 
     // The value of a word of this line.
     fn meant<T: Value>(&self, word: &str) -> Result<T, Fault>
         ensures { MatchResult result (λ v. T.Value.reads word.now (Some v)) (λ f. At self.now.number f) }
     {
-        match T::read(word) {
-            Some(value) => Ok(value),
-            None => Err(self.wrong(word, T::expected())),
-        }
+        T::read(word).ok_or_else(|| self.wrong(word, T::expected()))
     }
 
     // The next `N` words as numbers.
@@ -99,8 +96,8 @@ impl<'a> Line<'a> {
         ensures numbers { MatchResult result (λ ns. These N (rest self.old) ns (rest self.new)) (λ f. At self.old.number f) }
     {
         let mut numbers = [0; N];
-        for i in 0..N {
-            numbers[i] = self.value()?;
+        for number in numbers.iter_mut() {
+            *number = self.value()?;
         }
         Ok(numbers)
     }

@@ -14,6 +14,14 @@ pub trait Value: Sized {
     fn expected() -> Expected;
 }
 
+// A value that has a word of its own.
+pub trait Word: Value + Copy {
+    ghost word: { Self → List ℕ };
+
+    fn word(self) -> &'static str
+        ensures { result.now ≡ word self };
+}
+
 impl Value for u32 {
     ghost reads = { Whole };
 
@@ -21,10 +29,7 @@ impl Value for u32 {
         if plus_first(word.as_bytes()) {
             return None;
         }
-        match word.parse() {
-            Ok(number) => Some(number),
-            Err(_) => None,
-        }
+        word.parse().ok()
     }
 
     fn expected() -> Expected {
@@ -39,10 +44,7 @@ impl Value for i32 {
         if plus_first(word.as_bytes()) {
             return None;
         }
-        match word.parse() {
-            Ok(distance) => Some(distance),
-            Err(_) => None,
-        }
+        word.parse().ok()
     }
 
     fn expected() -> Expected {
@@ -54,8 +56,5 @@ impl Value for i32 {
 fn plus_first(word: &[u8]) -> bool
     ensures { result ≡ (slice_index word.now 0 == 43) }
 {
-    if word.len() == 0 {
-        return false;
-    }
-    word[0] == b'+'
+    word.first() == Some(&b'+')
 }

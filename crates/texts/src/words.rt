@@ -1,5 +1,6 @@
 // The words of the field.
-ghost use Rattle.texts.specs.Words.{Named, force_word, species_word, axis_word, mark_word, duration_word, service_word, area_word, turnings_word, turning_word, rule_word};
+ghost use Rattle.texts.specs.Words.{Named, force_word, species_word, axis_word, mark_word, duration_word, service_word, area_word, turnings_word, rule_word};
+ghost use Rattle.plates.specs.Turnings.{turning_word};
 
 use super::faults::Expected;
 use super::values::Value;
