@@ -2,12 +2,14 @@
 #![tactic(auto)]
 
 pub mod coil;
+pub mod few;
 pub mod layered;
 pub mod limit;
 pub mod list;
 pub mod strike;
 
 pub use coil::CoilCutter;
+pub use few::Few;
 pub use layered::{Layer, Layered, Struck};
 pub use limit::PressLimit;
 pub use list::{MakersList, Row};
