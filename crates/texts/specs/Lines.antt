@@ -1,5 +1,5 @@
 -- A line of a text, word by word.
-use Rattle.std.specs.Prelude.{◌≡◌, ℕ, ◌<◌, ◌≤◌, ◌⊎◌, List, [], ◌∷◌, ◌++◌, length, take, Some, Option, nat_eq}
+use Rattle.std.specs.Prelude.{◌≡◌, ℕ, ◌<◌, ◌≤◌, ◌⊎◌, List, [], ◌∷◌, ◌++◌, length, Some, Option, nat_eq}
 use Rattle.std.specs.Str.Iter.{split_whitespace_rest}
 use Rattle.std.specs.Char.{is_whitespace, is_not_whitespace}
 use Rattle.std.specs.Str.{NoCharPasses, EmptyOrStartsWithPassing}
@@ -45,6 +45,6 @@ Numbers bs ns after = Each Whole bs ns after
 abbrev pub These : ℕ → List ℕ → List ℕ → List ℕ → Type 0
 These n bs ns after = Numbers bs ns after × (length ns ≡ n)
 
--- the first words of bs are the first count of these numbers: as many as there are, n at most
-abbrev pub UpTo : ℕ → List ℕ → ℕ → List ℕ → List ℕ → Type 0
-UpTo n bs count values after = Numbers bs (take count values) after × (count ≤ n) × (count < n → Blank after)
+-- the first words of bs are these numbers: as many as there are, n at most
+abbrev pub UpTo : ℕ → List ℕ → List ℕ → List ℕ → Type 0
+UpTo n bs ns after = Numbers bs ns after × (length ns ≤ n) × (length ns < n → Blank after)

@@ -12,6 +12,7 @@ use super::values::{Value, Word};
 // `whole` what all of them give, or the first key that is lacking.
 pub trait Draft: Copy + Default {
     type Key: Word;
+
     type Whole;
 
     ghost has: { Self.Key → Self → Bool };

@@ -9,5 +9,5 @@ pub mod words;
 
 pub use drafts::{Draft, whole, with_line};
 pub use faults::{Expected, Fault, Found, Mismatch};
-pub use line::{Few, Line};
+pub use line::Line;
 pub use values::{Value, Word};

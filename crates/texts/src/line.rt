@@ -1,6 +1,7 @@
 // A line of the text, word by word.
 ghost use Rattle.std.specs.Prelude.{◌≡◌, Some, MatchResult};
 ghost use Rattle.std.specs.Option as opt;
+ghost use Rattle.supplies.specs.Few.{few};
 ghost use Rattle.texts.specs.Faults.{At};
 ghost use Rattle.texts.specs.Lines.{rest, Blank, First, Said, Taken, These, UpTo};
 
@@ -8,13 +9,7 @@ use super::faults::{Expected, Fault, Found, Mismatch};
 use super::values::Value;
 use std::alloc::Global;
 use std::str::SplitWhitespace;
-
-// The first `count` of these.
-#[derive(Clone, Copy)]
-pub struct Few<const N: usize> {
-    pub values: [u32; N],
-    pub count: usize,
-}
+use supplies::Few;
 
 #[derive(Drop)]
 pub struct Line<'a> {
@@ -105,16 +100,16 @@ impl<'a> Line<'a> {
     // The words that are left as numbers, as many as there are and `N` at most.
     pub fn few<const N: usize>(&mut self) -> Result<Few<N>, Fault>
         ensures number { self.new.number ≡ self.old.number }
-        ensures few { MatchResult result (λ f. UpTo N (rest self.old) f.count f.values (rest self.new)) (λ f. At self.old.number f) }
+        ensures few { MatchResult result (λ f. UpTo N (rest self.old) (few f) (rest self.new)) (λ f. At self.old.number f) }
     {
         let mut values = [0; N];
-        for i in 0..N {
+        for (count, value) in values.iter_mut().enumerate() {
             let Some(word) = self.word() else {
-                return Ok(Few { values, count: i });
+                return Ok(Few::new(values, count));
             };
-            values[i] = self.meant(word)?;
+            *value = self.meant(word)?;
         }
-        Ok(Few { values, count: N })
+        Ok(Few::new(values, N))
     }
 
     pub fn end(&mut self) -> Result<(), Fault>

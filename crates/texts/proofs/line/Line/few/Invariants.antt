@@ -3,5 +3,5 @@ use Rattle.std.proofs.Common.{◌≡◌, length, take}
 use Rattle.texts.specs.Lines.{rest, Numbers}
 use Rattle.texts.proofs.line.Line.few.Given as goal
 
-abbrev pub invariant-loop-i : goal.invariant-loop-i
-invariant-loop-i g l = Numbers (rest l.initial.self) (take l.i l.values) (rest l.self) × (l.self.number ≡ l.initial.self.number) × (length l.values ≡ g.row.N)
+abbrev pub invariant-loop-count : goal.invariant-loop-count
+invariant-loop-count g l = Numbers (rest l.initial.self) (take l.count l.value-items) (rest l.self) × (l.self.number ≡ l.initial.self.number) × (length l.value-items ≡ g.row.N)
