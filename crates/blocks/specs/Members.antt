@@ -67,7 +67,7 @@ pub record MemberKept (k : MemberKey) (before after : MemberDraft) : Type 0 wher
   pub marks : (k ≢ key.Marks) → after.marks ≡ before.marks
 
 -- the first words of bs are x0, x1, y0 and y1
-abbrev pub SidesSaid : {X : Type 0} → (List ℕ → Option X → Type 0) → List ℕ → List ℕ → Sides X → Type 0
+unfoldable pub SidesSaid : {X : Type 0} → (List ℕ → Option X → Type 0) → List ℕ → List ℕ → Sides X → Type 0
 SidesSaid reads bs after s = Each reads bs (s.x0 ∷ s.x1 ∷ s.y0 ∷ s.y1 ∷ []) after
 
 -- the key's value is what the first words of bs say

@@ -4,7 +4,8 @@ use Rattle.joints.specs.declared.sheets.Sheet.{Sheet}
 use Rattle.texts.specs.Drafts.{given, Filled}
 use Rattle.texts.specs.Lines.{Numbers, Taken, These}
 use Rattle.texts.specs.Numbers.{Whole}
-use Rattle.texts.specs.Words.{Named, area_word, duration_word, service_word, turning_word, turnings_word}
+use Rattle.plates.specs.Turnings.{turning_word}
+use Rattle.texts.specs.Words.{Named, area_word, duration_word, service_word, turnings_word}
 use Rattle.blocks.specs.declared.sheets.SheetDraft.{SheetDraft}
 use Rattle.blocks.specs.declared.sheets.SheetKey.{SheetKey}
 use Rattle.blocks.specs.declared.sheets.SheetKey.TheVariants as key

@@ -1,10 +1,10 @@
 // The block `card`: a family's card.
 ghost use Rattle.std.specs.Prelude.{◌≡◌};
-ghost use Rattle.blocks.specs.Cards.{empty_card, card_key_word, card_has, CardKept, CardTakes, card_of, in_order};
+ghost use Rattle.blocks.specs.Cards.{card_key_word, card_has, CardKept, CardTakes, card_of, in_order};
 ghost use Rattle.texts.specs.Words.{Named};
 
 use rules::{Card, Lateral};
-use texts::{Draft, Expected, Fault, Line, Value};
+use texts::{Draft, Expected, Fault, Line, Value, Word};
 
 #[derive(Clone, Copy)]
 pub enum CardKey {
@@ -16,7 +16,7 @@ pub enum CardKey {
 }
 
 // What the lines of the block have said so far.
-#[derive(Clone, Copy)]
+#[derive(Clone, Copy, Default)]
 pub struct CardDraft {
     pub teeth: Option<Lateral>,
     pub slip: Option<Lateral>,
@@ -48,19 +48,11 @@ impl Value for CardKey {
     }
 }
 
-impl Draft for CardDraft {
-    type Key = CardKey;
+impl Word for CardKey {
+    ghost word = { card_key_word };
 
-    ghost has = { card_has };
-
-    ghost kept = { CardKept };
-
-    ghost takes = { CardTakes };
-
-    fn name(key: CardKey) -> &'static str
-        ensures { result.now ≡ card_key_word key }
-    {
-        match key {
+    fn word(self) -> &'static str {
+        match self {
             CardKey::Teeth => "teeth",
             CardKey::Slip => "slip",
             CardKey::Tension => "tension",
@@ -68,6 +60,20 @@ impl Draft for CardDraft {
             CardKey::Tooth => "tooth",
         }
     }
+}
+
+impl Draft for CardDraft {
+    type Key = CardKey;
+
+    type Whole = Card;
+
+    ghost has = { card_has };
+
+    ghost kept = { CardKept };
+
+    ghost takes = { CardTakes };
+
+    ghost whole = { card_of };
 
     fn has(&self, key: CardKey) -> bool {
         match key {
@@ -89,26 +95,9 @@ impl Draft for CardDraft {
         }
         Ok(())
     }
-}
-
-impl CardDraft {
-    // No key has come.
-    pub fn new() -> CardDraft
-        ensures { result ≡ empty_card }
-    {
-        CardDraft {
-            teeth: None,
-            slip: None,
-            tension: None,
-            shear: None,
-            tooth: None,
-        }
-    }
 
     // The card, or the first key that it lacks.
-    pub fn finish(self) -> Result<Card, CardKey>
-        ensures { result ≡ card_of self }
-    {
+    fn finish(self) -> Result<Card, CardKey> {
         let teeth = self.teeth.ok_or(CardKey::Teeth)?;
         let slip = self.slip.ok_or(CardKey::Slip)?;
         let [t0, t90] = self.tension.ok_or(CardKey::Tension)?;

@@ -1,12 +1,12 @@
 // The block `heel`: the sheet of a heel joint.
 ghost use Rattle.std.specs.Prelude.{◌≡◌};
-ghost use Rattle.blocks.specs.Heels.{empty_heel, heel_key_word, heel_has, HeelKept, HeelTakes, heel_of};
+ghost use Rattle.blocks.specs.Heels.{heel_key_word, heel_has, HeelKept, HeelTakes, heel_of};
 ghost use Rattle.texts.specs.Words.{Named};
 
 use super::sheets::{SheetDraft, SheetKey};
 use joints::HeelSheet;
 use rules::FactorRule;
-use texts::{Draft, Expected, Fault, Line, Value};
+use texts::{Draft, Expected, Fault, Line, Value, Word};
 
 #[derive(Clone, Copy)]
 pub enum HeelKey {
@@ -17,7 +17,7 @@ pub enum HeelKey {
 }
 
 // What the lines of the block have said so far.
-#[derive(Clone, Copy)]
+#[derive(Clone, Copy, Default)]
 pub struct HeelDraft {
     pub sheet: SheetDraft,
     // rise and run
@@ -32,10 +32,7 @@ impl Value for HeelKey {
         match word {
             "slope" => Some(HeelKey::Slope),
             "rule" => Some(HeelKey::Rule),
-            _ => match SheetKey::read(word) {
-                Some(key) => Some(HeelKey::Sheet(key)),
-                None => None,
-            },
+            _ => SheetKey::read(word).map(HeelKey::Sheet),
         }
     }
 
@@ -47,8 +44,22 @@ impl Value for HeelKey {
     }
 }
 
+impl Word for HeelKey {
+    ghost word = { heel_key_word };
+
+    fn word(self) -> &'static str {
+        match self {
+            HeelKey::Sheet(key) => key.word(),
+            HeelKey::Slope => "slope",
+            HeelKey::Rule => "rule",
+        }
+    }
+}
+
 impl Draft for HeelDraft {
     type Key = HeelKey;
+
+    type Whole = HeelSheet;
 
     ghost has = { heel_has };
 
@@ -56,15 +67,7 @@ impl Draft for HeelDraft {
 
     ghost takes = { HeelTakes };
 
-    fn name(key: HeelKey) -> &'static str
-        ensures { result.now ≡ heel_key_word key }
-    {
-        match key {
-            HeelKey::Sheet(key) => <SheetDraft as Draft>::name(key),
-            HeelKey::Slope => "slope",
-            HeelKey::Rule => "rule",
-        }
-    }
+    ghost whole = { heel_of };
 
     fn has(&self, key: HeelKey) -> bool {
         match key {
@@ -82,28 +85,10 @@ impl Draft for HeelDraft {
         }
         Ok(())
     }
-}
-
-impl HeelDraft {
-    // No key has come.
-    pub fn new() -> HeelDraft
-        ensures { result ≡ empty_heel }
-    {
-        HeelDraft {
-            sheet: SheetDraft::new(),
-            slope: None,
-            rule: None,
-        }
-    }
 
     // The sheet, or the first key that it lacks. It may lack a rule, and a plate to try.
-    pub fn finish(&self) -> Result<HeelSheet, HeelKey>
-        ensures { result ≡ heel_of self.now }
-    {
-        let sheet = match self.sheet.finish() {
-            Ok(sheet) => sheet,
-            Err(key) => return Err(HeelKey::Sheet(key)),
-        };
+    fn finish(self) -> Result<HeelSheet, HeelKey> {
+        let sheet = self.sheet.finish().map_err(HeelKey::Sheet)?;
         let [rise, run] = self.slope.ok_or(HeelKey::Slope)?;
         Ok(HeelSheet {
             sheet,

@@ -1,11 +1,11 @@
 // The block `member`.
 ghost use Rattle.std.specs.Prelude.{◌≡◌, IfOk};
-ghost use Rattle.blocks.specs.Members.{empty_member, member_key_word, member_has, MemberKept, MemberTakes, SidesSaid, member_of, marked};
+ghost use Rattle.blocks.specs.Members.{member_key_word, member_has, MemberKept, MemberTakes, SidesSaid, member_of, marked};
 ghost use Rattle.texts.specs.Lines.{rest};
 ghost use Rattle.texts.specs.Words.{Named};
 
 use rules::{Axis, Field, Force, Mark, Member, Span, Species};
-use texts::{Draft, Expected, Fault, Line, Value};
+use texts::{Draft, Expected, Fault, Line, Value, Word};
 
 #[derive(Clone, Copy)]
 pub enum MemberKey {
@@ -35,7 +35,7 @@ pub struct Sides<T> {
 }
 
 // What the lines of the block have said so far.
-#[derive(Clone, Copy)]
+#[derive(Clone, Copy, Default)]
 pub struct MemberDraft {
     pub force: Option<Force>,
     pub normal: Option<u32>,
@@ -84,19 +84,11 @@ impl Value for MemberKey {
     }
 }
 
-impl Draft for MemberDraft {
-    type Key = MemberKey;
+impl Word for MemberKey {
+    ghost word = { member_key_word };
 
-    ghost has = { member_has };
-
-    ghost kept = { MemberKept };
-
-    ghost takes = { MemberTakes };
-
-    fn name(key: MemberKey) -> &'static str
-        ensures { result.now ≡ member_key_word key }
-    {
-        match key {
+    fn word(self) -> &'static str {
+        match self {
             MemberKey::Force => "force",
             MemberKey::Normal => "normal",
             MemberKey::Parallel => "parallel",
@@ -113,6 +105,20 @@ impl Draft for MemberDraft {
             MemberKey::Marks => "marks",
         }
     }
+}
+
+impl Draft for MemberDraft {
+    type Key = MemberKey;
+
+    type Whole = Member;
+
+    ghost has = { member_has };
+
+    ghost kept = { MemberKept };
+
+    ghost takes = { MemberTakes };
+
+    ghost whole = { member_of };
 
     fn has(&self, key: MemberKey) -> bool {
         match key {
@@ -152,35 +158,9 @@ impl Draft for MemberDraft {
         }
         Ok(())
     }
-}
-
-impl MemberDraft {
-    // No key has come.
-    pub fn new() -> MemberDraft
-        ensures { result ≡ empty_member }
-    {
-        MemberDraft {
-            force: None,
-            normal: None,
-            parallel: None,
-            specified: None,
-            cross: None,
-            theta: None,
-            rho: None,
-            sigma: None,
-            depth: None,
-            species: None,
-            grain: None,
-            interface: None,
-            field: None,
-            marks: None,
-        }
-    }
 
     // The member, or the first key that it lacks.
-    pub fn finish(self) -> Result<Member, MemberKey>
-        ensures { result ≡ member_of self }
-    {
+    fn finish(self) -> Result<Member, MemberKey> {
         Ok(Member {
             force: self.force.ok_or(MemberKey::Force)?,
             normal: self.normal.ok_or(MemberKey::Normal)?,

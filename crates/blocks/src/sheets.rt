@@ -1,13 +1,13 @@
 // The block `web`, the sheet of a web joint: its keys are those of every sheet.
 ghost use Rattle.std.specs.Prelude.{◌≡◌, IfOk};
-ghost use Rattle.blocks.specs.Sheets.{empty_sheet, sheet_key_word, sheet_has, SheetKept, SheetTakes, TriedSaid, sheet_of};
+ghost use Rattle.blocks.specs.Sheets.{sheet_key_word, sheet_has, SheetKept, SheetTakes, TriedSaid, sheet_of};
 ghost use Rattle.texts.specs.Lines.{rest};
 ghost use Rattle.texts.specs.Words.{Named};
 
 use joints::Sheet;
 use plates::{Plate, Turning};
 use rules::{Area, Conditions, Duration, Service, Turnings};
-use texts::{Draft, Expected, Fault, Found, Line, Value};
+use texts::{Draft, Expected, Fault, Found, Line, Value, Word};
 
 #[derive(Clone, Copy)]
 pub enum SheetKey {
@@ -28,7 +28,7 @@ pub struct Tried {
 }
 
 // What the lines of the block have said so far.
-#[derive(Clone, Copy)]
+#[derive(Clone, Copy, Default)]
 pub struct SheetDraft {
     // the first member and their count
     pub members: Option<[u32; 2]>,
@@ -64,19 +64,11 @@ impl Value for SheetKey {
     }
 }
 
-impl Draft for SheetDraft {
-    type Key = SheetKey;
+impl Word for SheetKey {
+    ghost word = { sheet_key_word };
 
-    ghost has = { sheet_has };
-
-    ghost kept = { SheetKept };
-
-    ghost takes = { SheetTakes };
-
-    fn name(key: SheetKey) -> &'static str
-        ensures { result.now ≡ sheet_key_word key }
-    {
-        match key {
+    fn word(self) -> &'static str {
+        match self {
             SheetKey::Members => "members",
             SheetKey::Truss => "truss",
             SheetKey::Duration => "duration",
@@ -86,6 +78,20 @@ impl Draft for SheetDraft {
             SheetKey::Try => "try",
         }
     }
+}
+
+impl Draft for SheetDraft {
+    type Key = SheetKey;
+
+    type Whole = Sheet;
+
+    ghost has = { sheet_has };
+
+    ghost kept = { SheetKept };
+
+    ghost takes = { SheetTakes };
+
+    ghost whole = { sheet_of };
 
     fn has(&self, key: SheetKey) -> bool {
         match key {
@@ -111,28 +117,9 @@ impl Draft for SheetDraft {
         }
         Ok(())
     }
-}
-
-impl SheetDraft {
-    // No key has come.
-    pub fn new() -> SheetDraft
-        ensures { result ≡ empty_sheet }
-    {
-        SheetDraft {
-            members: None,
-            truss: None,
-            duration: None,
-            service: None,
-            area: None,
-            turnings: None,
-            tried: None,
-        }
-    }
 
     // The sheet, or the first key that it lacks. It may lack a plate to try.
-    pub fn finish(&self) -> Result<Sheet, SheetKey>
-        ensures { result ≡ sheet_of self.now }
-    {
+    fn finish(self) -> Result<Sheet, SheetKey> {
         let [first, count] = self.members.ok_or(SheetKey::Members)?;
         let conditions = Conditions {
             truss: self.truss.ok_or(SheetKey::Truss)?,

@@ -1,11 +1,11 @@
 // The block `splice`: the sheet of a splice joint.
 ghost use Rattle.std.specs.Prelude.{◌≡◌};
-ghost use Rattle.blocks.specs.Splices.{empty_splice, splice_key_word, splice_has, SpliceKept, SpliceTakes, splice_of};
+ghost use Rattle.blocks.specs.Splices.{splice_key_word, splice_has, SpliceKept, SpliceTakes, splice_of};
 ghost use Rattle.texts.specs.Words.{Named};
 
 use super::sheets::{SheetDraft, SheetKey};
 use joints::SpliceSheet;
-use texts::{Draft, Expected, Fault, Line, Value};
+use texts::{Draft, Expected, Fault, Line, Value, Word};
 
 #[derive(Clone, Copy)]
 pub enum SpliceKey {
@@ -16,7 +16,7 @@ pub enum SpliceKey {
 }
 
 // What the lines of the block have said so far.
-#[derive(Clone, Copy)]
+#[derive(Clone, Copy, Default)]
 pub struct SpliceDraft {
     pub sheet: SheetDraft,
     pub moment: Option<u32>,
@@ -30,10 +30,7 @@ impl Value for SpliceKey {
         match word {
             "moment" => Some(SpliceKey::Moment),
             "wood" => Some(SpliceKey::Wood),
-            _ => match SheetKey::read(word) {
-                Some(key) => Some(SpliceKey::Sheet(key)),
-                None => None,
-            },
+            _ => SheetKey::read(word).map(SpliceKey::Sheet),
         }
     }
 
@@ -45,8 +42,22 @@ impl Value for SpliceKey {
     }
 }
 
+impl Word for SpliceKey {
+    ghost word = { splice_key_word };
+
+    fn word(self) -> &'static str {
+        match self {
+            SpliceKey::Sheet(key) => key.word(),
+            SpliceKey::Moment => "moment",
+            SpliceKey::Wood => "wood",
+        }
+    }
+}
+
 impl Draft for SpliceDraft {
     type Key = SpliceKey;
+
+    type Whole = SpliceSheet;
 
     ghost has = { splice_has };
 
@@ -54,15 +65,7 @@ impl Draft for SpliceDraft {
 
     ghost takes = { SpliceTakes };
 
-    fn name(key: SpliceKey) -> &'static str
-        ensures { result.now ≡ splice_key_word key }
-    {
-        match key {
-            SpliceKey::Sheet(key) => <SheetDraft as Draft>::name(key),
-            SpliceKey::Moment => "moment",
-            SpliceKey::Wood => "wood",
-        }
-    }
+    ghost whole = { splice_of };
 
     fn has(&self, key: SpliceKey) -> bool {
         match key {
@@ -80,28 +83,10 @@ impl Draft for SpliceDraft {
         }
         Ok(())
     }
-}
-
-impl SpliceDraft {
-    // No key has come.
-    pub fn new() -> SpliceDraft
-        ensures { result ≡ empty_splice }
-    {
-        SpliceDraft {
-            sheet: SheetDraft::new(),
-            moment: None,
-            wood: None,
-        }
-    }
 
     // The sheet, or the first key that it lacks. It may lack a plate to try.
-    pub fn finish(&self) -> Result<SpliceSheet, SpliceKey>
-        ensures { result ≡ splice_of self.now }
-    {
-        let sheet = match self.sheet.finish() {
-            Ok(sheet) => sheet,
-            Err(key) => return Err(SpliceKey::Sheet(key)),
-        };
+    fn finish(self) -> Result<SpliceSheet, SpliceKey> {
+        let sheet = self.sheet.finish().map_err(SpliceKey::Sheet)?;
         Ok(SpliceSheet {
             sheet,
             moment: self.moment.ok_or(SpliceKey::Moment)?,

@@ -1,5 +1,6 @@
 -- The block `coil`: its keys, its draft and the coil that a whole draft gives.
-use Rattle.std.specs.Prelude.{◌≡◌, ℕ, min, Bool, List, take, is_some, None, Ok, codes, Result, ◌≢◌}
+use Rattle.std.specs.Prelude.{◌≡◌, ℕ, Bool, List, is_some, None, Ok, codes, Result, ◌≢◌}
+use Rattle.supplies.specs.Few.{few}
 use Rattle.texts.specs.Drafts.{given, Filled}
 use Rattle.texts.specs.Lines.{Taken, UpTo}
 use Rattle.texts.specs.Numbers.{Whole}
@@ -38,7 +39,7 @@ pub record CoilKept (key : CoilKey) (before after : CoilDraft) : Type 0 where
 -- the key's value is what the first words of bs say
 abbrev pub CoilTakes : CoilKey → List ℕ → CoilDraft → List ℕ → Type 0
 CoilTakes Family bs d after = Filled d.family (λ n. Taken Whole bs n after)
-CoilTakes Widths bs d after = Filled d.widths (λ few. UpTo 8 bs few.count few.values after)
+CoilTakes Widths bs d after = Filled d.widths (λ f. UpTo 8 bs (few f) after)
 CoilTakes First bs d after = Filled d.first (λ n. Taken Whole bs n after)
 CoilTakes Step bs d after = Filled d.step (λ n. Taken Whole bs n after)
 CoilTakes Steps bs d after = Filled d.steps (λ n. Taken Whole bs n after)
@@ -55,4 +56,4 @@ coil_of d =
 
 -- the widths of the cutter
 abbrev pub coil_widths : Coil → List ℕ
-coil_widths c = take (min c.widths.count 8) c.widths.values
+coil_widths c = few c.widths

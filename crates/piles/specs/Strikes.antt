@@ -2,6 +2,7 @@
 use Rattle.std.specs.Prelude.{ℕ, Bool, List, is_some, None, Ok, codes, Result}
 use Rattle.supplies.specs.declared.layered.Layer.{Layer}
 use Rattle.supplies.specs.declared.layered.Layer.TheVariants.{Strike}
+use Rattle.supplies.specs.Few.{few}
 use Rattle.texts.specs.Drafts.{given, Filled}
 use Rattle.texts.specs.Lines.{UpTo}
 use Rattle.piles.specs.declared.strikes.StrikeDraft.{StrikeDraft}
@@ -25,8 +26,8 @@ StrikeKept Places before after = Unit {0}
 
 -- the key's value is what the first words of bs say
 abbrev pub StrikeTakes : StrikeKey → List ℕ → StrikeDraft → List ℕ → Type 0
-StrikeTakes Places bs d after = Filled d.places (λ few. UpTo 32 bs few.count few.values after)
+StrikeTakes Places bs d after = Filled d.places (λ f. UpTo 32 bs (few f) after)
 
 -- the strike list of the draft, or the key that it lacks
 abbrev pub strike_of : StrikeDraft → Result Layer StrikeKey
-strike_of d = given d.places Places (λ few. Ok (Strike (record { places = few.values; count = few.count })))
+strike_of d = given d.places Places (λ f. Ok (Strike f))

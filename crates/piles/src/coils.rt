@@ -1,10 +1,10 @@
 // The block `coil`: a coil cutter.
 ghost use Rattle.std.specs.Prelude.{◌≡◌};
-ghost use Rattle.piles.specs.Coils.{empty_coil, coil_key_word, coil_has, CoilKept, CoilTakes, coil_of, coil_widths};
+ghost use Rattle.piles.specs.Coils.{coil_key_word, coil_has, CoilKept, CoilTakes, coil_of, coil_widths};
 ghost use Rattle.texts.specs.Words.{Named};
 
-use supplies::CoilCutter;
-use texts::{Draft, Expected, Fault, Few, Line, Value};
+use supplies::{CoilCutter, Few};
+use texts::{Draft, Expected, Fault, Line, Value, Word};
 
 // A cutter takes so many widths.
 pub const MAX_WIDTHS: usize = 8;
@@ -19,7 +19,7 @@ pub enum CoilKey {
 }
 
 // What the lines of the block have said so far.
-#[derive(Clone, Copy)]
+#[derive(Clone, Copy, Default)]
 pub struct CoilDraft {
     pub family: Option<u32>,
     pub widths: Option<Few<MAX_WIDTHS>>,
@@ -60,19 +60,11 @@ impl Value for CoilKey {
     }
 }
 
-impl Draft for CoilDraft {
-    type Key = CoilKey;
+impl Word for CoilKey {
+    ghost word = { coil_key_word };
 
-    ghost has = { coil_has };
-
-    ghost kept = { CoilKept };
-
-    ghost takes = { CoilTakes };
-
-    fn name(key: CoilKey) -> &'static str
-        ensures { result.now ≡ coil_key_word key }
-    {
-        match key {
+    fn word(self) -> &'static str {
+        match self {
             CoilKey::Family => "family",
             CoilKey::Widths => "widths",
             CoilKey::First => "first",
@@ -80,6 +72,19 @@ impl Draft for CoilDraft {
             CoilKey::Steps => "steps",
         }
     }
+}
+
+impl Draft for CoilDraft {
+    type Key = CoilKey;
+    type Whole = Coil;
+
+    ghost has = { coil_has };
+
+    ghost kept = { CoilKept };
+
+    ghost takes = { CoilTakes };
+
+    ghost whole = { coil_of };
 
     fn has(&self, key: CoilKey) -> bool {
         match key {
@@ -101,26 +106,9 @@ impl Draft for CoilDraft {
         }
         Ok(())
     }
-}
-
-impl CoilDraft {
-    // No key has come.
-    pub fn new() -> CoilDraft
-        ensures { result ≡ empty_coil }
-    {
-        CoilDraft {
-            family: None,
-            widths: None,
-            first: None,
-            step: None,
-            steps: None,
-        }
-    }
 
     // The coil, or the first key that it lacks.
-    pub fn finish(self) -> Result<Coil, CoilKey>
-        ensures { result ≡ coil_of self }
-    {
+    fn finish(self) -> Result<Coil, CoilKey> {
         Ok(Coil {
             family: self.family.ok_or(CoilKey::Family)?,
             widths: self.widths.ok_or(CoilKey::Widths)?,
@@ -140,8 +128,12 @@ impl Coil {
         ensures step { result.step ≡ self.now.step }
         ensures steps { result.steps ≡ self.now.steps }
     {
-        let count = self.widths.count.min(MAX_WIDTHS);
-        let widths = &self.widths.values[0..count];
-        CoilCutter::new(self.family, widths, self.first, self.step, self.steps)
+        CoilCutter::new(
+            self.family,
+            self.widths.as_slice(),
+            self.first,
+            self.step,
+            self.steps,
+        )
     }
 }

@@ -1,10 +1,10 @@
 // The block `press`: a press limit.
 ghost use Rattle.std.specs.Prelude.{◌≡◌};
-ghost use Rattle.piles.specs.Presses.{empty_press, press_key_word, press_has, PressKept, PressTakes, press_of};
+ghost use Rattle.piles.specs.Presses.{press_key_word, press_has, PressKept, PressTakes, press_of};
 ghost use Rattle.texts.specs.Words.{Named};
 
 use supplies::Layer;
-use texts::{Draft, Expected, Fault, Line, Value};
+use texts::{Draft, Expected, Fault, Line, Value, Word};
 
 #[derive(Clone, Copy)]
 pub enum PressKey {
@@ -13,7 +13,7 @@ pub enum PressKey {
 }
 
 // What the lines of the block have said so far.
-#[derive(Clone, Copy)]
+#[derive(Clone, Copy, Default)]
 pub struct PressDraft {
     pub width: Option<u32>,
     pub length: Option<u32>,
@@ -38,8 +38,20 @@ impl Value for PressKey {
     }
 }
 
+impl Word for PressKey {
+    ghost word = { press_key_word };
+
+    fn word(self) -> &'static str {
+        match self {
+            PressKey::Width => "width",
+            PressKey::Length => "length",
+        }
+    }
+}
+
 impl Draft for PressDraft {
     type Key = PressKey;
+    type Whole = Layer;
 
     ghost has = { press_has };
 
@@ -47,14 +59,7 @@ impl Draft for PressDraft {
 
     ghost takes = { PressTakes };
 
-    fn name(key: PressKey) -> &'static str
-        ensures { result.now ≡ press_key_word key }
-    {
-        match key {
-            PressKey::Width => "width",
-            PressKey::Length => "length",
-        }
-    }
+    ghost whole = { press_of };
 
     fn has(&self, key: PressKey) -> bool {
         match key {
@@ -70,23 +75,9 @@ impl Draft for PressDraft {
         }
         Ok(())
     }
-}
-
-impl PressDraft {
-    // No key has come.
-    pub fn new() -> PressDraft
-        ensures { result ≡ empty_press }
-    {
-        PressDraft {
-            width: None,
-            length: None,
-        }
-    }
 
     // The press limit, or the first key that it lacks.
-    pub fn finish(self) -> Result<Layer, PressKey>
-        ensures { result ≡ press_of self }
-    {
+    fn finish(self) -> Result<Layer, PressKey> {
         Ok(Layer::Press {
             width: self.width.ok_or(PressKey::Width)?,
             length: self.length.ok_or(PressKey::Length)?,

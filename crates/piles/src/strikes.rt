@@ -1,10 +1,10 @@
 // The block `strike`: a strike list.
 ghost use Rattle.std.specs.Prelude.{◌≡◌};
-ghost use Rattle.piles.specs.Strikes.{empty_strike, strike_key_word, strike_has, StrikeKept, StrikeTakes, strike_of};
+ghost use Rattle.piles.specs.Strikes.{strike_key_word, strike_has, StrikeKept, StrikeTakes, strike_of};
 ghost use Rattle.texts.specs.Words.{Named};
 
-use supplies::{Layer, Struck};
-use texts::{Draft, Expected, Fault, Few, Line, Value};
+use supplies::{Few, Layer};
+use texts::{Draft, Expected, Fault, Line, Value, Word};
 
 #[derive(Clone, Copy)]
 pub enum StrikeKey {
@@ -12,7 +12,7 @@ pub enum StrikeKey {
 }
 
 // What the lines of the block have said so far.
-#[derive(Clone, Copy)]
+#[derive(Clone, Copy, Default)]
 pub struct StrikeDraft {
     pub places: Option<Few<32>>,
 }
@@ -35,8 +35,19 @@ impl Value for StrikeKey {
     }
 }
 
+impl Word for StrikeKey {
+    ghost word = { strike_key_word };
+
+    fn word(self) -> &'static str {
+        match self {
+            StrikeKey::Places => "places",
+        }
+    }
+}
+
 impl Draft for StrikeDraft {
     type Key = StrikeKey;
+    type Whole = Layer;
 
     ghost has = { strike_has };
 
@@ -44,13 +55,7 @@ impl Draft for StrikeDraft {
 
     ghost takes = { StrikeTakes };
 
-    fn name(key: StrikeKey) -> &'static str
-        ensures { result.now ≡ strike_key_word key }
-    {
-        match key {
-            StrikeKey::Places => "places",
-        }
-    }
+    ghost whole = { strike_of };
 
     fn has(&self, key: StrikeKey) -> bool {
         match key {
@@ -64,25 +69,10 @@ impl Draft for StrikeDraft {
         }
         Ok(())
     }
-}
-
-impl StrikeDraft {
-    // No key has come.
-    pub fn new() -> StrikeDraft
-        ensures { result ≡ empty_strike }
-    {
-        StrikeDraft { places: None }
-    }
 
     // The strike list, or the key that it lacks.
-    pub fn finish(self) -> Result<Layer, StrikeKey>
-        ensures { result ≡ strike_of self }
-    {
-        let few = self.places.ok_or(StrikeKey::Places)?;
-        let places = few.values;
-        Ok(Layer::Strike(Struck {
-            places,
-            count: few.count,
-        }))
+    fn finish(self) -> Result<Layer, StrikeKey> {
+        self.places.ok_or(StrikeKey::Places).map(Layer::Strike)
+    }))
     }
 }
