@@ -1,3 +1,4 @@
 mod Cuts
+mod Hiding
 mod Layering
 mod Strikes

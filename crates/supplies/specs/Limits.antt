@@ -1,20 +1,16 @@
 -- What a press limit shows of a supply, and its laws.
-use Rattle.std.specs.Prelude.{ℕ, ◌≤◌, min, Bool, cond, ◌&&◌, Some, None, Option, nat_le}
+use Rattle.std.specs.Prelude.{ℕ, ◌≤◌, min, Bool, not, ◌&&◌, Option, nat_le}
 use Rattle.plates.specs.Size.{Size}
+use Rattle.supplies.specs.Hiding.{unhidden}
 use Rattle.supplies.specs.Shown.{AllExist, Same}
 
 -- a plate that is neither wider nor longer goes into the press
 abbrev pub pressable : ℕ → ℕ → Size → Bool
 pressable width length s = nat_le s.width width && nat_le s.length length
 
--- what is shown of the plate below, or of none
-abbrev pub pressed : ℕ → ℕ → Option Size → Option Size
-pressed width length None = None
-pressed width length (Some s) = cond (pressable width length s) (Some s) None
-
 -- each place shows its plate below, where that goes into the press
 abbrev pub limit_shows : ℕ → ℕ → (ℕ → Option Size) → ℕ → Option Size
-limit_shows width length shows k = pressed width length (shows k)
+limit_shows width length = unhidden (λ _ s. not (pressable width length s))
 
 pub record LimitLaws (width length : ℕ) : Type 0 where
   -- limits that every plate meets hide nothing

@@ -1,17 +1,17 @@
 -- What a strike list shows of a supply, and its laws.
-use Rattle.std.specs.Prelude.{◌≡◌, ℕ, ◌≤◌, Bool, false, cond, ◌||◌, List, [], ◌∷◌, take, None, Option, ◌==◌}
-use Rattle.std.specs.List.{AllByRecursion}
+use Rattle.std.specs.Prelude.{◌≡◌, ℕ, ◌≤◌, Bool, List, [], take, Option, ◌==◌}
+use Rattle.std.specs.List.{AllByRecursion, list_any}
 use Rattle.plates.specs.Size.{Size}
+use Rattle.supplies.specs.Hiding.{unhidden}
 use Rattle.supplies.specs.Shown.{AllExist, NothingFrom, Same}
 
 -- the place stands in the list
 abbrev pub listed : List ℕ → ℕ → Bool
-listed [] k = false
-listed (j ∷ js) k = j == k || listed js k
+listed js k = list_any (λ j. j == k) js
 
 -- the first 32 places of the list show nothing, each other what it shows below
 abbrev pub strike_shows : List ℕ → (ℕ → Option Size) → ℕ → Option Size
-strike_shows struck shows k = cond (listed (take 32 struck) k) None (shows k)
+strike_shows struck = unhidden (λ k _. listed (take 32 struck) k)
 
 pub record StrikeLaws (struck : List ℕ) : Type 0 where
   -- an empty strike list hides nothing

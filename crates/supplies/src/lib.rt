@@ -7,13 +7,15 @@ pub mod layered;
 pub mod limit;
 pub mod list;
 pub mod strike;
+pub mod under;
 
 pub use coil::CoilCutter;
 pub use few::Few;
-pub use layered::{Layer, Layered, Struck};
+pub use layered::{Layer, Layered};
 pub use limit::PressLimit;
 pub use list::{MakersList, Row};
 pub use strike::StrikeList;
+pub use under::{Hides, Under};
 
 #[cfg(test)]
 mod tests;

@@ -1,46 +1,38 @@
 // A press limit: a supply without the plates that are too wide or too long for the press.
-ghost use Rattle.std.specs.Prelude.{◌≡◌};
-ghost use Rattle.supplies.specs.Limits.{limit_shows, LimitLaws};
+ghost use Rattle.std.specs.Prelude.{◌≡◌, not};
+ghost use Rattle.supplies.specs.Limits.{pressable, LimitLaws};
 
-use plates::{Plate, Supply};
+use super::under::{Hides, Under};
+use plates::Plate;
 
-#[derive(Drop)]
-pub struct PressLimit<S> {
-    supply: S,
-    width: u32,
-    length: u32,
+// The widest and the longest that the press takes.
+#[derive(Clone, Copy)]
+pub struct Press {
+    pub(crate) width: u32,
+    pub(crate) length: u32,
 }
+
+pub type PressLimit<S> = Under<S, Press>;
 
 impl<S> PressLimit<S> {
     // The supply less the plates wider than `width` or longer than `length`.
     pub fn new(supply: S, width: u32, length: u32) -> Self
         ensures supply { result.supply ≡ supply }
-        ensures width { result.width ≡ width }
-        ensures length { result.length ≡ length }
-        ensures laws { LimitLaws result.width result.length }
+        ensures width { result.layer.width ≡ width }
+        ensures length { result.layer.length ≡ length }
+        ensures laws { LimitLaws result.layer.width result.layer.length }
     {
-        PressLimit {
+        Under {
             supply,
-            width,
-            length,
+            layer: Press { width, length },
         }
     }
 }
 
-impl<S: Supply> Supply for PressLimit<S> {
-    ghost places = { λ l. S.Supply.places l.supply };
+impl Hides for Press {
+    ghost hides = { λ p _ s. not (pressable p.width p.length s) };
 
-    ghost shows = { λ l. limit_shows l.width l.length (S.Supply.shows l.supply) };
-
-    fn places(&self) -> u32 {
-        self.supply.places()
-    }
-
-    fn plate(&self, place: u32) -> Option<Plate> {
-        let plate = self.supply.plate(place)?;
-        if plate.width() > self.width || plate.length() > self.length {
-            return None;
-        }
-        Some(plate)
+    fn hides(&self, _place: u32, plate: Plate) -> bool {
+        plate.width() > self.width || plate.length() > self.length
     }
 }

@@ -1,49 +1,39 @@
 // A strike list: a supply some places of which are struck, and show nothing.
 ghost use Rattle.std.specs.Prelude.{◌≡◌, take};
-ghost use Rattle.supplies.specs.Strikes.{listed, strike_shows, StrikeLaws};
+ghost use Rattle.supplies.specs.Strikes.{listed, StrikeLaws};
 
-use plates::{Plate, Supply};
+use super::under::{Hides, Under};
+use plates::Plate;
 
 // The places struck beyond these are not read.
-pub(crate) const MAX_STRUCK: usize = 32;
+const MAX_STRUCK: usize = 32;
 
-#[derive(Drop)]
-pub struct StrikeList<'a, S> {
-    supply: S,
-    struck: &'a [u32],
-}
+#[derive(Clone, Copy)]
+pub struct Strikes<'a>(pub(crate) &'a [u32]);
+
+pub type StrikeList<'a, S> = Under<S, Strikes<'a>>;
 
 impl<'a, S> StrikeList<'a, S> {
     // The supply less the places struck: the others keep their numbers.
     pub fn new(supply: S, struck: &'a [u32]) -> Self
         ensures supply { result.supply ≡ supply }
-        ensures struck { result.struck.now ≡ struck.now }
-        ensures laws { StrikeLaws result.struck.now }
+        ensures struck { result.layer.0.now ≡ struck.now }
+        ensures laws { StrikeLaws result.layer.0.now }
     {
-        StrikeList { supply, struck }
-    }
-
-    fn strikes(&self, place: u32) -> bool
-        ensures { result ≡ listed (take 32 self.now.struck.now) place }
-    {
-        let read = self.struck.len().min(MAX_STRUCK);
-        self.struck[0..read].contains(&place)
+        Under {
+            supply,
+            layer: Strikes(struck),
+        }
     }
 }
 
-impl<S: Supply> Supply for StrikeList<'_, S> {
-    ghost places = { λ l. S.Supply.places l.supply };
+impl Hides for Strikes<'_> {
+    ghost hides = { λ p k _. listed (take 32 p.0.now) k };
 
-    ghost shows = { λ l. strike_shows l.struck.now (S.Supply.shows l.supply) };
-
-    fn places(&self) -> u32 {
-        self.supply.places()
-    }
-
-    fn plate(&self, place: u32) -> Option<Plate> {
-        if self.strikes(place) {
-            return None;
-        }
-        self.supply.plate(place)
+    fn hides(&self, place: u32, _plate: Plate) -> bool {
+        self.0
+            .iter()
+            .take(MAX_STRUCK)
+            .any(|struck| *struck == place)
     }
 }

@@ -1,0 +1,36 @@
+// A supply under a layer, which hides some of its plates: the places keep their numbers.
+ghost use Rattle.std.specs.Prelude.{◌≡◌, ℕ, Bool};
+ghost use Rattle.plates.specs.Size.{Size, size};
+ghost use Rattle.supplies.specs.Hiding.{unhidden};
+
+use plates::{Plate, Supply};
+
+pub trait Hides {
+    ghost hides: { Self → ℕ → Size → Bool };
+
+    // The layer hides this plate at this place.
+    fn hides(&self, place: u32, plate: Plate) -> bool
+        ensures { result ≡ hides self.now place (size plate) };
+}
+
+#[derive(Drop)]
+pub struct Under<S, L> {
+    pub(crate) supply: S,
+    pub(crate) layer: L,
+}
+
+impl<S: Supply, L: Hides> Supply for Under<S, L> {
+    ghost places = { λ u. S.places u.supply };
+
+    ghost shows = { λ u. unhidden (L.hides u.layer) (S.shows u.supply) };
+
+    fn places(&self) -> u32 {
+        self.supply.places()
+    }
+
+    fn plate(&self, place: u32) -> Option<Plate> {
+        self.supply
+            .plate(place)
+            .filter(|plate| !self.layer.hides(place, *plate))
+    }
+}
