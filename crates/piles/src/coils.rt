@@ -76,6 +76,7 @@ impl Word for CoilKey {
 
 impl Draft for CoilDraft {
     type Key = CoilKey;
+
     type Whole = Coil;
 
     ghost has = { coil_has };

@@ -51,6 +51,7 @@ impl Word for PressKey {
 
 impl Draft for PressDraft {
     type Key = PressKey;
+
     type Whole = Layer;
 
     ghost has = { press_has };

@@ -47,6 +47,7 @@ impl Word for StrikeKey {
 
 impl Draft for StrikeDraft {
     type Key = StrikeKey;
+
     type Whole = Layer;
 
     ghost has = { strike_has };
@@ -73,6 +74,5 @@ impl Draft for StrikeDraft {
     // The strike list, or the key that it lacks.
     fn finish(self) -> Result<Layer, StrikeKey> {
         self.places.ok_or(StrikeKey::Places).map(Layer::Strike)
-    }))
     }
 }
