@@ -7,7 +7,7 @@ use Rattle.supplies.specs.Rows.{list_places, list_shows}
 use Rattle.supplies.specs.declared.list.Row.{Row}
 use Rattle.piles.specs.Coils.{coil_widths}
 use Rattle.piles.specs.declared.coils.Coil.{Coil}
-use Rattle.jobs_next.specs.declared.reader.Job.{Job}
+use Rattle.jobs.specs.declared.reader.Job.{Job}
 
 abbrev pub stock_places : Option Coil → List Row → ℕ
 stock_places (Some c) rows = coil_places (coil_widths c) c.steps

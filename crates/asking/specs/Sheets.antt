@@ -7,8 +7,8 @@ use Rattle.joints.specs.declared.any.AnyJoint.{AnyJoint}
 use Rattle.choice.specs.Choosing.{Chosen, Judged}
 use Rattle.choice.specs.declared.explaining.ExplainRow.{ExplainRow}
 use Rattle.blocks.specs.declared.sheets.Tried.{Tried}
-use Rattle.jobs_next.specs.declared.reader.Entry.{Entry}
-use Rattle.jobs_next.specs.declared.reader.Job.{Job}
+use Rattle.jobs.specs.declared.reader.Entry.{Entry}
+use Rattle.jobs.specs.declared.reader.Job.{Job}
 use Rattle.asking.specs.Accounts.{AllRows, NoRows}
 use Rattle.asking.specs.Each.{Each}
 use Rattle.asking.specs.Picks.{as_choice, Shown}

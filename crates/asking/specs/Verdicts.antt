@@ -6,8 +6,8 @@ use Rattle.plates.specs.declared.verdicts.Verdict.{Verdict}
 use Rattle.texts.specs.declared.faults.Fault.{Fault}
 use Rattle.texts.specs.declared.faults.Fault.TheVariants.{Format, Memory}
 use Rattle.blocks.specs.declared.sheets.Tried.{Tried}
-use Rattle.jobs_next.specs.declared.reader.Entry.{Entry}
-use Rattle.jobs_next.specs.declared.reader.Job.{Job}
+use Rattle.jobs.specs.declared.reader.Entry.{Entry}
+use Rattle.jobs.specs.declared.reader.Job.{Job}
 use Rattle.asking.specs.Each.{Each}
 use Rattle.asking.specs.Sheets.{Judges}
 

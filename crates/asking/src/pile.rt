@@ -3,7 +3,7 @@ ghost use Rattle.std.specs.Prelude.{◌≡◌};
 ghost use Rattle.supplies.specs.Layers.{layered_shows};
 ghost use Rattle.asking.specs.Piles.{stock_places, stock_shows};
 
-use jobs_next::Job;
+use jobs::Job;
 use piles::Coil;
 use plates::{Plate, Supply};
 use supplies::{Layer, Layered, MakersList, Row};

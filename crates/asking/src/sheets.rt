@@ -7,7 +7,7 @@ use super::picks::{Picked, pick};
 use super::pile::JobPile;
 use blocks::Tried;
 use choice::{ExplainRow, judge};
-use jobs_next::{Entry, Job};
+use jobs::{Entry, Job};
 use joints::AnyJoint;
 use plates::{Refusal, Verdict};
 use std::alloc::{AllocError, Global};

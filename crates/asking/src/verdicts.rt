@@ -4,10 +4,10 @@ ghost use Rattle.texts.specs.Faults.{at_line};
 ghost use Rattle.asking.specs.Verdicts.{AllJudged, Untried};
 
 use super::sheets::judged;
-use jobs_next::{Entry, Job};
+use jobs::{Entry, Job};
 use plates::{Refusal, Verdict};
 use std::alloc::Global;
-use texts::{Expected, Fault, Found, Mismatch};
+use texts::{Expected, Fault, Found, Mismatch, Word};
 
 pub type Judgement = Result<Verdict, Refusal>;
 
@@ -20,10 +20,7 @@ pub fn judgements(heap: Global, job: &Job) -> Result<Vec<Judgement>, Fault>
         let Some(tried) = entry.tried else {
             return Err(untried(entry));
         };
-        match all.push(judged(job, entry, tried)) {
-            Ok(()) => {}
-            Err(_) => return Err(Fault::Memory),
-        }
+        all.push(judged(job, entry, tried))?;
     }
     Ok(all)
 }
@@ -33,7 +30,7 @@ fn untried(entry: &Entry) -> Fault
     ensures { at_line result ≡ entry.now.line }
 {
     let mismatch = Mismatch {
-        found: Found::Keyword(entry.block.name()),
+        found: Found::Keyword(entry.block.word()),
         expected: Expected::Lacking("try"),
     };
     Fault::Format {

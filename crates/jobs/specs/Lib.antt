@@ -1,8 +1,3 @@
-pub mod Cards
-pub mod Drafts
-pub mod Faults
-pub mod Members
-pub mod Numbers
+pub mod Openers
 pub mod Reading
-pub mod Webs
-pub mod Words
+pub mod Texts

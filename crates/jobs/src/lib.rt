@@ -1,16 +1,8 @@
-// The job text: what a designer writes down, read into cards, members, sheets and a maker's list.
+// The job text: what a designer writes down, read into cards, members, sheets and the plates there are.
 #![tactic(auto)]
 
-pub mod blocks;
-pub mod cards;
-pub mod faults;
-pub mod line;
-pub mod members;
+pub mod openers;
 pub mod reader;
-pub mod values;
-pub mod webs;
 
-pub use blocks::Block;
-pub use faults::{Expected, Fault, Found, Mismatch};
-pub use reader::{Entry, Job, Kind, read};
-pub use webs::Tried;
+pub use openers::{Block, Format};
+pub use reader::{Entry, Job, read};

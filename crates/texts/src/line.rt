@@ -50,7 +50,7 @@ impl<'a> Line<'a> {
     {
         match String::from_str(self.heap, word) {
             Ok(word) => self.fault(Found::Word(word), expected),
-            Err(_) => Fault::Memory,
+            Err(error) => error.into(),
         }
     }
 

@@ -3,11 +3,11 @@ use Rattle.std.proofs.Common.{◌≡◌, ℕ, List, codes, sym, ap, ◌∙◌, s
 use Rattle.supplies.specs.declared.list.Row.{Row}
 use Rattle.texts.specs.Lines.{rest}
 use Rattle.texts.specs.declared.line.Line.{Line}
-use Rattle.jobs_next.specs.Reading.{Keyed, RowSaid, with_row}
-use Rattle.jobs_next.specs.Texts.{Belongs, State, state}
-use Rattle.jobs_next.specs.declared.reader.Open.{Open}
-use Rattle.jobs_next.specs.declared.reader.Open.TheVariants as at
-use Rattle.jobs_next.proofs.reader.Reader.key.Goals as goal
+use Rattle.jobs.specs.Reading.{Keyed, RowSaid, with_row}
+use Rattle.jobs.specs.Texts.{Belongs, State, state}
+use Rattle.jobs.specs.declared.reader.Open.{Open}
+use Rattle.jobs.specs.declared.reader.Open.TheVariants as at
+use Rattle.jobs.proofs.reader.Reader.key.Goals as goal
 
 -- one more row of a list
 one_row : (w bs left : List ℕ) (s t : State) (x : Row) → s.block ≡ at.List → t ≡ record { block = s.block; opened = s.opened; stocked = s.stocked; job = with_row s.job x }

@@ -1,7 +1,7 @@
 use Rattle.std.proofs.Common.{rules}
 use Rattle.texts.proofs.Three.{three}
 use Rattle.texts.specs.Lines.{rest}
-use Rattle.jobs_next.proofs.reader.plate_row.Goals as goal
+use Rattle.jobs.proofs.reader.plate_row.Goals as goal
 
 pub returns : goal.returns
 returns c =

@@ -1,16 +1,16 @@
 -- A whole job text, line by line.
-use Rattle.std.specs.Prelude.{◌≡◌, ℕ, ◌+◌, Bool, true, false, List, [], length, None, ◌≢◌}
+use Rattle.std.specs.Prelude.{◌≡◌, ℕ, ◌+◌, Bool, true, false, List, [], length, None}
 use Rattle.std.specs.Str.Lines.{IsFirstLine}
 use Rattle.texts.specs.Lines.{Blank, First, Taken}
 use Rattle.texts.specs.Lines as of-line
-use Rattle.texts.specs.Words.{Named}
-use Rattle.jobs_next.specs.Openers.{block_word}
-use Rattle.jobs_next.specs.Reading.{Said, said, Ended, Keyed, started}
-use Rattle.jobs_next.specs.declared.openers.Block.{Block}
-use Rattle.jobs_next.specs.declared.openers.Block.TheVariants as block
-use Rattle.jobs_next.specs.declared.reader.Open.{Open}
-use Rattle.jobs_next.specs.declared.reader.Open.TheVariants as at
-use Rattle.jobs_next.specs.declared.reader.Reader.{Reader}
+use Rattle.jobs.specs.Openers.{Opens, OpensNone}
+use Rattle.jobs.specs.Reading.{Said, said, Ended, Keyed, started}
+use Rattle.jobs.specs.declared.openers.Block.{Block}
+use Rattle.jobs.specs.declared.openers.Block.TheVariants as block
+use Rattle.jobs.specs.declared.openers.Format.{Format}
+use Rattle.jobs.specs.declared.reader.Open.{Open}
+use Rattle.jobs.specs.declared.reader.Open.TheVariants as at
+use Rattle.jobs.specs.declared.reader.Reader.{Reader}
 
 -- between two lines: the open block, the line that opened it, whether a list or a coil has come, and the job so far
 pub record State : Type 0 where
@@ -52,19 +52,19 @@ pub record Belongs (w bs left : List ℕ) (s t : State) : Type 0 where
   pub stocked : t.stocked ≡ s.stocked
 
 -- line n, which says bs: nothing, the opener of a block alone, or a word that opens none, its values and nothing more
-pub data Step : ℕ → List ℕ → State → State → Type 0 where
-  blank : {n : ℕ} {bs : List ℕ} {s : State} → Blank bs → Step n bs s s
-  opener : {n : ℕ} {bs left : List ℕ} {b : Block} {s t : State} → Taken (Named block_word) bs b left → Blank left → Opened n b s t → Step n bs s t
-  key : {n : ℕ} {bs w mid left : List ℕ} {s t : State}
-      → First bs w mid → ((b : Block) → w ≢ block_word b) → Belongs w mid left s t → Blank left → Step n bs s t
+pub data Step : Format → ℕ → List ℕ → State → State → Type 0 where
+  blank : {f : Format} {n : ℕ} {bs : List ℕ} {s : State} → Blank bs → Step f n bs s s
+  opener : {f : Format} {n : ℕ} {bs left : List ℕ} {b : Block} {s t : State} → Taken (Opens f) bs b left → Blank left → Opened n b s t → Step f n bs s t
+  key : {f : Format} {n : ℕ} {bs w mid left : List ℕ} {s t : State}
+      → First bs w mid → OpensNone f w → Belongs w mid left s t → Blank left → Step f n bs s t
 
 -- the first n lines of the text lead here, and this much of it is left
-pub data Reading : List ℕ → ℕ → List ℕ → State → Type 0 where
-  begun : {text : List ℕ} → Reading text 0 text nothing_said
-  step : {text left line bs next : List ℕ} {n : ℕ} {s t : State}
-      → Reading text n left s → IsFirstLine left line next → of-line.Said line bs → Step (n + 1) bs s t → Reading text (n + 1) next t
+pub data Reading : Format → List ℕ → ℕ → List ℕ → State → Type 0 where
+  begun : {f : Format} {text : List ℕ} → Reading f text 0 text nothing_said
+  step : {f : Format} {text left line bs next : List ℕ} {n : ℕ} {s t : State}
+      → Reading f text n left s → IsFirstLine left line next → of-line.Said line bs → Step f (n + 1) bs s t → Reading f text (n + 1) next t
 
 -- the job that all its lines say: after the last the open block ends
-abbrev pub JobOf : List ℕ → Said → Type 0
-JobOf text job =
-    (n : ℕ) × (left : List ℕ) × (s : State) × Reading text n left s × (length left ≡ 0) × Ended s.block s.opened s.job job
+abbrev pub JobOf : Format → List ℕ → Said → Type 0
+JobOf f text job =
+    (n : ℕ) × (left : List ℕ) × (s : State) × Reading f text n left s × (length left ≡ 0) × Ended s.block s.opened s.job job

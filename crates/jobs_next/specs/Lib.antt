@@ -1,3 +1,0 @@
-pub mod Openers
-pub mod Reading
-pub mod Texts

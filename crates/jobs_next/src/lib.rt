@@ -1,8 +1,0 @@
-// The job text: what a designer writes down, read into cards, members, sheets and the plates there are.
-#![tactic(auto)]
-
-pub mod openers;
-pub mod reader;
-
-pub use openers::Block;
-pub use reader::{Entry, Job, read};
