@@ -1,1 +1,1 @@
-pub mod Picks
+pub mod Tallies

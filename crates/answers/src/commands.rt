@@ -1,63 +1,62 @@
-// The commands of the bench, each over a whole text.
-use super::failures::{Failure, Source};
-use super::sheets::{Judgement, judgements, picked};
-use super::wording::Told;
-use jobs::Job;
-use std::{fs, io};
+// The commands of a bench, each over a whole text.
+use super::accounts::{Form, explain_all};
+use super::failures::{Cause, Source, text_of};
+use super::wording::Refused;
+use asking::{judgements, picked};
+use jobs::{Format, Job};
+use plates::Refusal;
+use std::{fmt, io};
 
 // What is asked of a text.
 #[derive(Clone, Copy)]
 pub enum Command {
     Choose,
     Judge,
+    Explain(Form),
 }
 
 // Reads the text and writes an answer for each of its sheets, or none where the text is at fault.
-pub fn answer(rt: &HostRuntime, command: Command, source: Source) -> Result<(), Failure> {
-    let text = match text_of(rt, &source) {
-        Ok(text) => text,
-        Err(error) => return Err(Failure::Input { source, error }),
-    };
-    let job = match jobs::read(rt.alloc(), text.as_str()) {
-        Ok(job) => job,
-        Err(fault) => return Err(Failure::Text { source, fault }),
-    };
+pub fn answer(
+    rt: &HostRuntime,
+    format: Format,
+    command: Command,
+    source: &Source,
+) -> Result<(), Cause> {
+    let text = text_of(rt, source)?;
+    let job = jobs::read(rt.alloc(), format, text.as_str()).map_err(Cause::Text)?;
     match command {
-        Command::Choose => choose_all(rt, &job)?,
-        Command::Judge => match judgements(rt.alloc(), &job) {
-            Ok(all) => tell_all(rt, all)?,
-            Err(fault) => return Err(Failure::Text { source, fault }),
-        },
+        Command::Choose => choose_all(rt, format, &job)?,
+        Command::Explain(form) => explain_all(rt, format, &job, form)?,
+        Command::Judge => judge_all(rt, format, &job)?,
     }
     Ok(())
 }
 
-fn text_of(rt: &HostRuntime, source: &Source) -> io::Result<String> {
-    match source {
-        Source::File(file) => fs::read_to_string(rt, file.as_str()),
-        Source::StandardInput => io::read_to_string(rt.alloc(), rt.stdin()),
+fn choose_all(rt: &HostRuntime, format: Format, job: &Job) -> io::Result<()> {
+    for (sheet, entry) in (1usize..).zip(job.sheets.iter()) {
+        tell(rt, format, sheet, picked(job, entry))?;
     }
+    Ok(())
+}
+
+// Nothing is written where a sheet names no plate.
+fn judge_all(rt: &HostRuntime, format: Format, job: &Job) -> Result<(), Cause> {
+    let all = judgements(rt.alloc(), job).map_err(Cause::Text)?;
+    for (sheet, judgement) in (1usize..).zip(all) {
+        tell(rt, format, sheet, judgement)?;
+    }
+    Ok(())
 }
 
 // One line a sheet, in the order of the text; sheets are counted from 1.
-fn choose_all(rt: &HostRuntime, job: &Job) -> io::Result<()> {
-    for (index, entry) in job.sheets.iter().enumerate() {
-        let sheet = index.saturating_add(1);
-        match picked(job, entry) {
-            Ok(plate) => println!(rt; "sheet {sheet} {plate}")?,
-            Err(refusal) => println!(rt; "sheet {sheet} {}", Told(refusal))?,
-        }
+fn tell<T: fmt::Display + Drop>(
+    rt: &HostRuntime,
+    format: Format,
+    sheet: usize,
+    answer: Result<T, Refusal>,
+) -> io::Result<()> {
+    match answer {
+        Ok(answer) => println!(rt; "sheet {sheet} {answer}"),
+        Err(refusal) => println!(rt; "sheet {sheet} {}", Refused { refusal, format }),
     }
-    Ok(())
-}
-
-fn tell_all(rt: &HostRuntime, judgements: Vec<Judgement>) -> io::Result<()> {
-    for (index, judgement) in judgements.into_iter().enumerate() {
-        let sheet = index.saturating_add(1);
-        match judgement {
-            Ok(verdict) => println!(rt; "sheet {sheet} {}", Told(verdict))?,
-            Err(refusal) => println!(rt; "sheet {sheet} {}", Told(refusal))?,
-        }
-    }
-    Ok(())
 }

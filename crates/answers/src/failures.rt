@@ -1,8 +1,7 @@
-// Why the bench ends without its answers.
-use jobs::Fault;
-use std::{fmt, io};
+// Where texts are read from, and why there are no answers.
+use std::{fmt, fs, io};
+use texts::Fault;
 
-// Where the text is read from.
 #[derive(Drop)]
 pub enum Source {
     File(String),
@@ -10,21 +9,37 @@ pub enum Source {
 }
 
 #[derive(Drop)]
-pub enum Failure {
-    // the arguments are not those of a command
-    Usage,
+pub enum Cause {
     // the text could not be read
-    Input { source: Source, error: io::Error },
+    Input(io::Error),
     // the text breaks the format
-    Text { source: Source, fault: Fault },
+    Text(Fault),
     // an answer could not be written
     Output(io::Error),
+    Memory,
 }
 
-impl From<io::Error> for Failure {
-    fn from(error: io::Error) -> Failure {
-        Failure::Output(error)
+// A cause as a person is told it: of what program, and over what text.
+#[derive(Drop)]
+pub struct Told<'a> {
+    pub program: &'a str,
+    pub source: &'a Source,
+    pub cause: &'a Cause,
+}
+
+impl From<io::Error> for Cause {
+    fn from(error: io::Error) -> Cause {
+        Cause::Output(error)
     }
+}
+
+// The text from there.
+pub fn text_of(rt: &HostRuntime, source: &Source) -> Result<String, Cause> {
+    match source {
+        Source::File(file) => fs::read_to_string(rt, file.as_str()),
+        Source::StandardInput => io::read_to_string(rt.alloc(), rt.stdin()),
+    }
+    .map_err(Cause::Input)
 }
 
 impl fmt::Display for Source {
@@ -36,16 +51,19 @@ impl fmt::Display for Source {
     }
 }
 
-impl fmt::Display for Failure {
+impl fmt::Display for Told<'_> {
     fn fmt<W: fmt::Write>(&self, f: &mut fmt::Formatter<W>) -> fmt::Result {
-        match self {
-            Failure::Usage => f.write_str("usage: bench choose [FILE], or bench judge [FILE]"),
-            Failure::Input { source, error } => write!(f, "{source}: {error}"),
-            Failure::Text { source, fault } => match fault {
-                Fault::Format { line, mismatch } => write!(f, "{source}:{line}: {mismatch}"),
-                Fault::Memory => write!(f, "{source}: out of memory"),
-            },
-            Failure::Output(error) => write!(f, "bench: {error}"),
+        let program = self.program;
+        let source = self.source;
+        match self.cause {
+            Cause::Input(error) => write!(f, "{source}: {error}"),
+            Cause::Text(Fault::Format { line, mismatch }) => write!(
+                f,
+                "{source}:{line}: {mismatch}"
+            ),
+            Cause::Text(Fault::Memory) => write!(f, "{source}: out of memory"),
+            Cause::Output(error) => write!(f, "{program}: {error}"),
+            Cause::Memory => write!(f, "{program}: out of memory"),
         }
     }
 }

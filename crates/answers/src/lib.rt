@@ -1,10 +1,14 @@
-// What is answered for the sheets of a job text, one line a sheet.
+// What is answered for the sheets of a job text, line by line.
 #![tactic(auto)]
 
+mod accounts;
+mod benches;
 mod commands;
 mod failures;
-mod sheets;
 mod wording;
 
+pub use accounts::Form;
+pub use benches::{Bench, answered};
 pub use commands::{Command, answer};
-pub use failures::{Failure, Source};
+pub use failures::{Cause, Source, Told, text_of};
+pub use wording::Refused;

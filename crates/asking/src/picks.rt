@@ -4,6 +4,7 @@ ghost use Rattle.choice.specs.Choosing.{Chosen};
 
 use choice::choose;
 use plates::{Joint, Plate, Refusal, Supply, Turning};
+use std::fmt;
 
 // The plate that was chosen, with its place and turning, the area of one face in mm², and how many places were asked.
 #[derive(Clone, Copy)]
@@ -31,5 +32,19 @@ pub fn pick<J: Joint, S: Supply>(joint: &J, supply: &S) -> Result<Picked, Refusa
             asked: choice.asked,
         }),
         None => unreachable(),
+    }
+}
+
+impl fmt::Display for Picked {
+    fn fmt<W: fmt::Write>(&self, f: &mut fmt::Formatter<W>) -> fmt::Result {
+        write!(
+            f,
+            "place {} {} {} area {} asked {}",
+            self.place,
+            self.turning,
+            self.plate,
+            self.area,
+            self.asked
+        )
     }
 }

@@ -2,10 +2,11 @@
 #![tactic(auto)]
 
 use answers::{Command, Source, answer};
+use jobs::Format;
 use std::process::ExitCode;
 
 fn main(rt: HostRuntime) -> ExitCode {
-    match answer(&rt, Command::Choose, Source::StandardInput) {
+    match answer(&rt, Format::Webs, Command::Choose, &Source::StandardInput) {
         Ok(()) => ExitCode::SUCCESS,
         Err(_) => ExitCode::FAILURE,
     }

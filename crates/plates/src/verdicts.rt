@@ -101,3 +101,16 @@ impl Verdict {
         }
     }
 }
+
+impl fmt::Display for Verdict {
+    fn fmt<W: fmt::Write>(&self, f: &mut fmt::Formatter<W>) -> fmt::Result {
+        match self {
+            Verdict::Passes => f.write_str("passes"),
+            Verdict::Misses { clause, member } => write!(
+                f,
+                "misses {} member {member}: {clause}",
+                clause.letter()
+            ),
+        }
+    }
+}

@@ -3,6 +3,8 @@ ghost use Rattle.std.specs.Prelude.{◌≡◌, ◌*◌};
 ghost use Rattle.std.specs.Option.{option_map};
 ghost use Rattle.plates.specs.Size.{size, sized, area};
 
+use std::fmt;
+
 use super::{MAX_FAMILY, MAX_LENGTH, MAX_WIDTH, MIN_SIDE, Plate};
 
 impl Plate {
@@ -49,5 +51,17 @@ impl Plate {
         ensures { result ≡ area (size self.now) }
     {
         self.width * self.length
+    }
+}
+
+impl fmt::Display for Plate {
+    fn fmt<W: fmt::Write>(&self, f: &mut fmt::Formatter<W>) -> fmt::Result {
+        write!(
+            f,
+            "{} x {} family {}",
+            self.width,
+            self.length,
+            self.family
+        )
     }
 }

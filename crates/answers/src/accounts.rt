@@ -1,13 +1,13 @@
 // Why each plate of a pile passes the joint of a sheet or not, row by row.
 ghost use Rattle.std.specs.Prelude.{◌≡◌};
-ghost use Rattle.answers_next.specs.Tallies.{ends, tally};
+ghost use Rattle.answers.specs.Tallies.{ends, tally};
 
-use super::failures::Failure;
-use super::wording::{Told, missed, turning_word};
+use super::failures::Cause;
+use super::wording::Refused;
 use asking::{JobPile, NoAccount, explained};
 use choice::ExplainRow;
-use jobs_next::{Entry, Job};
-use plates::{Clause, Plate, Refusal, Supply, Verdict};
+use jobs::{Format, Job};
+use plates::{Clause, Plate, Supply, Verdict};
 use std::{fmt, io};
 
 // Lines for people, or values for a spreadsheet.
@@ -50,16 +50,25 @@ const CLAUSES: [Clause; 11] = [
 const HEADER: &str = "sheet,place,width,length,family,turning,letter,member,words";
 
 // The account of every sheet, in the order of the text.
-pub(crate) fn explain_all(rt: &HostRuntime, job: &Job, form: Form) -> Result<(), Failure> {
+pub(crate) fn explain_all(
+    rt: &HostRuntime,
+    format: Format,
+    job: &Job,
+    form: Form,
+) -> Result<(), Cause> {
     if let Form::Csv = form {
         println!(rt; "{HEADER}")?;
     }
-    for (index, entry) in job.sheets.iter().enumerate() {
-        let sheet = index.saturating_add(1);
+    for (sheet, entry) in (1usize..).zip(job.sheets.iter()) {
         match explained(rt.alloc(), job, entry) {
             Ok(rows) => write_account(rt, job, sheet, rows.as_slice(), form)?,
-            Err(NoAccount::Refused(refusal)) => write_refusal(rt, sheet, refusal, form)?,
-            Err(NoAccount::Memory) => return Err(Failure::Memory),
+            Err(NoAccount::Refused(refusal)) => write_last(
+                rt,
+                sheet,
+                Refused { refusal, format },
+                form,
+            )?,
+            Err(NoAccount::Memory) => return Err(Cause::Memory),
         }
     }
     Ok(())
@@ -88,16 +97,19 @@ fn write_account(
             }
         }
     }
-    match form {
-        Form::Words => println!(rt; "sheet {sheet} {}", Counts(rows)),
-        Form::Csv => println!(rt; "{sheet},,,,,,,,\"{}\"", Counts(rows)),
-    }
+    write_last(rt, sheet, Counts(rows), form)
 }
 
-fn write_refusal(rt: &HostRuntime, sheet: usize, refusal: Refusal, form: Form) -> io::Result<()> {
+// The line that ends the account of a sheet.
+fn write_last<T: fmt::Display + Drop>(
+    rt: &HostRuntime,
+    sheet: usize,
+    said: T,
+    form: Form,
+) -> io::Result<()> {
     match form {
-        Form::Words => println!(rt; "sheet {sheet} {}", Told(refusal)),
-        Form::Csv => println!(rt; "{sheet},,,,,,,,\"{}\"", Told(refusal)),
+        Form::Words => println!(rt; "sheet {sheet} {said}"),
+        Form::Csv => println!(rt; "{sheet},,,,,,,,\"{said}\""),
     }
 }
 
@@ -105,10 +117,12 @@ impl fmt::Display for Line {
     fn fmt<W: fmt::Write>(&self, f: &mut fmt::Formatter<W>) -> fmt::Result {
         let sheet = self.sheet;
         let place = self.row.place;
-        let turning = turning_word(self.row.turning);
-        let plate = Told(self.plate);
-        write!(f, "sheet {sheet} place {place} {turning} {plate} ")?;
-        write!(f, "{}", Told(self.row.verdict))
+        let turning = self.row.turning;
+        write!(
+            f,
+            "sheet {sheet} place {place} {turning} {} {}",
+            self.plate, self.row.verdict
+        )
     }
 }
 
@@ -116,21 +130,18 @@ impl fmt::Display for Values {
     fn fmt<W: fmt::Write>(&self, f: &mut fmt::Formatter<W>) -> fmt::Result {
         let line = self.0;
         let plate = line.plate;
-        let turning = turning_word(line.row.turning);
+        let turning = line.row.turning;
         write!(f, "{},{},", line.sheet, line.row.place)?;
         write!(f, "{},{},", plate.width(), plate.length())?;
         write!(f, "{},{turning},", plate.family())?;
         match line.row.verdict {
             Verdict::Passes => f.write_str(",,passes"),
-            Verdict::Misses { clause, member } => {
-                let words = missed(clause);
-                write!(f, "{},{member},", clause.letter())?;
-                if member == 0 {
-                    f.write_str(words)
-                } else {
-                    write!(f, "\"{words}, member {member}\"")
-                }
-            }
+            Verdict::Misses { clause, member: 0 } => write!(f, "{},0,{clause}", clause.letter()),
+            Verdict::Misses { clause, member } => write!(
+                f,
+                "{},{member},\"{clause}, member {member}\"",
+                clause.letter()
+            ),
         }
     }
 }
@@ -150,13 +161,9 @@ impl fmt::Display for Counts<'_> {
 fn count(rows: &[ExplainRow], clause: Option<Clause>) -> usize
     ensures { result ≡ tally clause rows.now }
 {
-    let mut count = 0;
-    for row in rows.iter() {
-        if ends_so(row.verdict, clause) {
-            count += 1;
-        }
-    }
-    count
+    rows.iter()
+        .filter(|row| ends_so(row.verdict, clause))
+        .count()
 }
 
 // The verdict names this clause, or none where it passes.
@@ -165,7 +172,7 @@ fn ends_so(verdict: Verdict, named: Option<Clause>) -> bool
 {
     match (verdict, named) {
         (Verdict::Passes, None) => true,
-        (Verdict::Misses { clause, member: _ }, Some(named)) => clause.letter() == named.letter(),
+        (Verdict::Misses { clause, .. }, Some(named)) => clause == named,
         _ => false,
     }
 }

@@ -1,5 +1,5 @@
 -- How many rows of an account end in which way.
-use Rattle.std.specs.Prelude.{ℕ, ◌+◌, Bool, true, false, cond, List, [], ◌∷◌, Some, None, Option, ◌==◌}
+use Rattle.std.specs.Prelude.{ℕ, Bool, true, false, List, Some, None, Option, ◌==◌, count_by}
 use Rattle.plates.specs.Verdicts.{letter}
 use Rattle.plates.specs.declared.verdicts.Clause.{Clause}
 use Rattle.plates.specs.declared.verdicts.Verdict.{Verdict}
@@ -13,6 +13,6 @@ ends None (Misses c m) = false
 ends (Some d) Passes = false
 ends (Some d) (Misses c m) = letter c == letter d
 
+-- how many of the rows do
 abbrev pub tally : Option Clause → List ExplainRow → ℕ
-tally clause [] = 0
-tally clause (x ∷ xs) = cond (ends clause x.verdict) 1 0 + tally clause xs
+tally clause rows = count_by (λ x. ends clause x.verdict) rows
