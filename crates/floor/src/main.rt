@@ -1,6 +1,7 @@
 // Replays the journal of a yard over the pile of a job.
 #![tactic(auto)]
 
+use answers::Source;
 use floors::{Failure, Order, run};
 use std::env;
 use std::process::ExitCode;
@@ -22,27 +23,18 @@ fn main(rt: HostRuntime) -> ExitCode {
 // The arguments are the job, the journal and, if it is not 1, the stamp.
 fn start(rt: &HostRuntime) -> Result<(), Failure> {
     let mut args = env::args(rt)?.skip(1);
-    let Some(job) = args.next() else {
+    let (Some(job), Some(journal)) = (args.next(), args.next()) else {
         return Err(Failure::Usage);
     };
-    let Some(journal) = args.next() else {
+    let stamp = args.next().map_or(Some(STAMP), |word| u32::read(word.as_str()));
+    let (Some(stamp), None) = (stamp, args.next()) else {
         return Err(Failure::Usage);
     };
-    let stamp = match args.next() {
-        Some(word) => <u32 as Value>::read(word.as_str()),
-        None => Some(STAMP),
-    };
-    let Some(stamp) = stamp else {
-        return Err(Failure::Usage);
-    };
-    if args.next().is_some() {
-        return Err(Failure::Usage);
-    }
     run(
         rt,
         Order {
-            job,
-            journal,
+            job: Source::File(job),
+            journal: Source::File(journal),
             stamp,
         },
     )

@@ -4,12 +4,14 @@ ghost use Rattle.plays.specs.Fates.{slip_of};
 ghost use Rattle.plays.specs.Lists.{drawn_by};
 ghost use Rattle.yard.specs.declared.slips.SlipNumbers.{SlipNumbers};
 
-use answers_next::{Told, turning_word};
+use answers::Refused;
+use jobs::Format;
 use journals::Verb;
 use plates::{Plate, Refusal, Supply};
 use plays::fates::{Fate, fate_of, slip_of};
 use plays::{Done, PressLine};
 use std::io;
+use yard::yards::BINS;
 use yard::{Answer, Bin, Call, OpenSlip, SlipNumbers, Yard};
 
 // Each call's answer, in the order of the journal; slips are counted from 1.
@@ -17,7 +19,7 @@ pub(crate) fn write_answers<P: Supply>(rt: &HostRuntime, pile: &P, all: &[Done])
     let mut slips: usize = 0;
     for done in all.iter() {
         slips = slips_after(slips, done);
-        print!(rt; "line {} {}: ", done.line, Verb::of(done.call).word())?;
+        print!(rt; "line {} {}: ", done.line, Verb::of(done.call))?;
         write_answer(rt, pile, done, slips)?;
     }
     Ok(())
@@ -55,10 +57,18 @@ fn write_answer<P: Supply>(
     }
 }
 
+// The floor speaks of whole jobs.
+fn refused(refusal: Refusal) -> Refused {
+    Refused {
+        refusal,
+        format: Format::Whole,
+    }
+}
+
 // What was asked is done, or is refused.
 fn write_over(rt: &HostRuntime, call: Call, over: Result<(), Refusal>) -> io::Result<()> {
     if let Err(refusal) = over {
-        return println!(rt; "{}", Told(refusal));
+        return println!(rt; "{}", refused(refusal));
     }
     match call {
         Call::Receive { place, pairs } => println!(rt; "place {place} pairs {pairs}"),
@@ -78,7 +88,7 @@ fn write_drawn<P: Supply>(
             write_pair(rt, pile, numbers)?;
             println!(rt; "")
         }
-        Err(refusal) => println!(rt; "{}", Told(refusal)),
+        Err(refusal) => println!(rt; "{}", refused(refusal)),
     }
 }
 
@@ -94,14 +104,14 @@ fn write_voided(rt: &HostRuntime, call: Call, numbers: SlipNumbers) -> io::Resul
 fn write_told(rt: &HostRuntime, told: Result<Bin, Refusal>) -> io::Result<()> {
     match told {
         Ok(bin) => println!(rt; "on hand {} out {}", bin.on_hand(), bin.out()),
-        Err(refusal) => println!(rt; "{}", Told(refusal)),
+        Err(refusal) => println!(rt; "{}", refused(refusal)),
     }
 }
 
 // The places that have pairs on hand or out.
 pub(crate) fn write_bins<P: Supply>(rt: &HostRuntime, pile: &P, yard: &Yard<P>) -> io::Result<()> {
     println!(rt; "bins")?;
-    for place in 0..256 {
+    for place in 0..BINS {
         if let Ok(bin) = yard.tell(place) {
             write_bin(rt, place, pile.plate(place), bin)?;
         }
@@ -165,14 +175,13 @@ pub(crate) fn write_open<P: Supply>(
 // The pair of a slip: its place, its turning and its plate.
 fn write_pair<P: Supply>(rt: &HostRuntime, pile: &P, numbers: SlipNumbers) -> io::Result<()> {
     let place = numbers.place;
-    let turning = turning_word(numbers.turning);
-    print!(rt; "place {place} {turning} ")?;
+    print!(rt; "place {place} {} ", numbers.turning)?;
     write_plate(rt, pile.plate(place))
 }
 
 fn write_plate(rt: &HostRuntime, plate: Option<Plate>) -> io::Result<()> {
     match plate {
-        Some(plate) => print!(rt; "{}", Told(plate)),
+        Some(plate) => print!(rt; "{plate}"),
         None => print!(rt; "no plate"),
     }
 }

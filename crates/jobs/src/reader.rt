@@ -246,10 +246,8 @@ pub fn read(heap: Global, format: Format, text: &str) -> Result<Job, Fault>
     ensures { IfOk result (λ job. JobOf format text.now (said job)) }
 {
     let mut reader = Reader::new(heap);
-    let mut number = 0;
-    for line in text.lines() {
-        number += 1;
-        reader.take(format, &mut Line::new(heap, number, line))?;
+    for (index, line) in text.lines().enumerate() {
+        reader.take(format, &mut Line::new(heap, index + 1, line))?;
     }
     reader.close()?;
     let Reader {

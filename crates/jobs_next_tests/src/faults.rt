@@ -1,5 +1,5 @@
 // A text that breaks the format, and its fault.
-use jobs_next::read;
+use jobs::{Format, read};
 use std::test::Fail;
 
 const CARD: &str = "card\n teeth 1 2 3 4\n slip 5 6 7 8\n tension 9 10\n shear 11 12 13 14 15 16\n";
@@ -160,7 +160,7 @@ const FAULTS: [(&str, &str); 38] = [
 fn told(rt: HostRuntime) -> Result<(), Fail> {
     let heap = rt.alloc();
     for (text, told) in FAULTS.iter() {
-        match read(heap, text) {
+        match read(heap, Format::Whole, text) {
             Ok(_) => return Err(Fail::new(text)),
             Err(fault) => assert_eq!(rt; fault.to_string(heap)?.as_str(), *told),
         }
@@ -173,7 +173,7 @@ fn told(rt: HostRuntime) -> Result<(), Fail> {
 fn lacking(rt: HostRuntime) -> Result<(), Fail> {
     let heap = rt.alloc();
     let text = format!(in heap; "# a card\n{CARD}web\n members 0 1\n")?;
-    match read(heap, text.as_str()) {
+    match read(heap, Format::Whole, text.as_str()) {
         Ok(_) => Err(Fail::new("no fault")),
         Err(fault) => {
             assert_eq!(rt;

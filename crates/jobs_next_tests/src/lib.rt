@@ -1,4 +1,4 @@
-// The tests of `jobs_next`: what a text gives, and what a text that breaks the format is told.
+// The tests of `jobs` in the whole format: what a text gives, and what a text that breaks the format is told.
 #![tactic(auto)]
 
 #[cfg(test)]

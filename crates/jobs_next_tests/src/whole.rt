@@ -1,5 +1,5 @@
 // Each value of a text in its place.
-use jobs_next::read;
+use jobs::{Format, read};
 use joints::AnySheet;
 use plates::Turning;
 use rules::{Area, Axis, Duration, FactorRule, Force, Mark, Service, Species, Turnings};
@@ -96,7 +96,7 @@ strike
 
 #[test]
 fn cards(rt: HostRuntime) -> Result<(), Fail> {
-    let job = read(rt.alloc(), TEXT)?;
+    let job = read(rt.alloc(), Format::Whole, TEXT)?;
     assert!(rt; job.cards.len() == 1);
     let card = job.cards[0];
     let teeth = card.teeth;
@@ -111,7 +111,7 @@ fn cards(rt: HostRuntime) -> Result<(), Fail> {
 
 #[test]
 fn members(rt: HostRuntime) -> Result<(), Fail> {
-    let job = read(rt.alloc(), TEXT)?;
+    let job = read(rt.alloc(), Format::Whole, TEXT)?;
     assert!(rt; job.members.len() == 1);
     let m = job.members[0];
     assert!(rt; matches!(m.force, Force::Compression));
@@ -139,7 +139,7 @@ fn members(rt: HostRuntime) -> Result<(), Fail> {
 
 #[test]
 fn webs(rt: HostRuntime) -> Result<(), Fail> {
-    let job = read(rt.alloc(), TEXT)?;
+    let job = read(rt.alloc(), Format::Whole, TEXT)?;
     assert!(rt; job.sheets.len() == 5);
     let entry = job.sheets[0];
     let AnySheet::Web(sheet) = entry.sheet else {
@@ -175,7 +175,7 @@ fn webs(rt: HostRuntime) -> Result<(), Fail> {
 
 #[test]
 fn heels(rt: HostRuntime) -> Result<(), Fail> {
-    let job = read(rt.alloc(), TEXT)?;
+    let job = read(rt.alloc(), Format::Whole, TEXT)?;
     assert!(rt; job.sheets.len() == 5);
     let AnySheet::Heel(heel) = job.sheets[2].sheet else {
         return Err(Fail::new("no heel sheet"));
@@ -196,7 +196,7 @@ fn heels(rt: HostRuntime) -> Result<(), Fail> {
 
 #[test]
 fn splices(rt: HostRuntime) -> Result<(), Fail> {
-    let job = read(rt.alloc(), TEXT)?;
+    let job = read(rt.alloc(), Format::Whole, TEXT)?;
     assert!(rt; job.sheets.len() == 5);
     let AnySheet::Splice(splice) = job.sheets[4].sheet else {
         return Err(Fail::new("no splice sheet"));
@@ -211,7 +211,7 @@ fn splices(rt: HostRuntime) -> Result<(), Fail> {
 // In the order of the text.
 #[test]
 fn layers(rt: HostRuntime) -> Result<(), Fail> {
-    let job = read(rt.alloc(), TEXT)?;
+    let job = read(rt.alloc(), Format::Whole, TEXT)?;
     assert!(rt; job.layers.len() == 3);
     assert!(rt; job.coil.is_none());
     assert!(rt;
@@ -226,11 +226,9 @@ fn layers(rt: HostRuntime) -> Result<(), Fail> {
     let Layer::Strike(struck) = job.layers[1] else {
         return Err(Fail::new("no strike list"));
     };
-    assert!(rt; struck.count == 3);
-    assert_eq!(rt;
-        [struck.places[0], struck.places[1], struck.places[2]],
-        [91, 92, 0]
-    );
+    let places = struck.as_slice();
+    assert!(rt; places.len() == 3);
+    assert_eq!(rt; [places[0], places[1], places[2]], [91, 92, 0]);
     assert!(rt;
         matches!(
             job.layers[2],
@@ -245,7 +243,7 @@ fn layers(rt: HostRuntime) -> Result<(), Fail> {
 
 #[test]
 fn coils(rt: HostRuntime) -> Result<(), Fail> {
-    let job = read(rt.alloc(), COIL)?;
+    let job = read(rt.alloc(), Format::Whole, COIL)?;
     let Some(coil) = job.coil else {
         return Err(Fail::new("no coil"));
     };
@@ -253,15 +251,16 @@ fn coils(rt: HostRuntime) -> Result<(), Fail> {
         [coil.family, coil.steps, coil.step, coil.first],
         [13, 14, 15, 16]
     );
-    assert!(rt; coil.widths.count == 2);
-    assert_eq!(rt; [coil.widths.values[0], coil.widths.values[1]], [11, 12]);
+    let widths = coil.widths.as_slice();
+    assert!(rt; widths.len() == 2);
+    assert_eq!(rt; [widths[0], widths[1]], [11, 12]);
     assert!(rt; job.layers.len() == 1);
     Ok(())
 }
 
 #[test]
 fn rows(rt: HostRuntime) -> Result<(), Fail> {
-    let job = read(rt.alloc(), TEXT)?;
+    let job = read(rt.alloc(), Format::Whole, TEXT)?;
     assert!(rt; job.rows.len() == 2);
     let row = job.rows[0];
     assert_eq!(rt; [row.width, row.length, row.family], [41, 42, 43]);

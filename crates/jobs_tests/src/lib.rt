@@ -1,4 +1,4 @@
-// The tests of `jobs`: what a text gives, and what a text that breaks the format is told.
+// The tests of `jobs` in the format of web joints: what a text gives, and what a text that breaks the format is told.
 #![tactic(auto)]
 
 #[cfg(test)]

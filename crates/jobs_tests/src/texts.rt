@@ -1,5 +1,6 @@
 // Each value of a text in its place.
-use jobs::read;
+use jobs::{Format, read};
+use joints::AnySheet;
 use plates::Turning;
 use rules::{Area, Axis, Duration, Force, Mark, Service, Species, Turnings};
 use std::test::Fail;
@@ -49,7 +50,7 @@ list
 
 #[test]
 fn cards(rt: HostRuntime) -> Result<(), Fail> {
-    let job = read(rt.alloc(), TEXT)?;
+    let job = read(rt.alloc(), Format::Webs, TEXT)?;
     assert!(rt; job.cards.len() == 1);
     let card = job.cards[0];
     let teeth = card.teeth;
@@ -64,7 +65,7 @@ fn cards(rt: HostRuntime) -> Result<(), Fail> {
 
 #[test]
 fn members(rt: HostRuntime) -> Result<(), Fail> {
-    let job = read(rt.alloc(), TEXT)?;
+    let job = read(rt.alloc(), Format::Webs, TEXT)?;
     assert!(rt; job.members.len() == 1);
     let m = job.members[0];
     assert!(rt; matches!(m.force, Force::Compression));
@@ -92,14 +93,14 @@ fn members(rt: HostRuntime) -> Result<(), Fail> {
 
 #[test]
 fn sheets(rt: HostRuntime) -> Result<(), Fail> {
-    let job = read(rt.alloc(), TEXT)?;
+    let job = read(rt.alloc(), Format::Webs, TEXT)?;
     assert!(rt; job.sheets.len() == 2);
     let entry = job.sheets[0];
-    let conditions = entry.sheet.conditions;
-    assert_eq!(rt;
-        [entry.line, entry.sheet.first, entry.sheet.count],
-        [24, 32, 33]
-    );
+    let AnySheet::Web(sheet) = entry.sheet else {
+        return Err(Fail::new("no web sheet"));
+    };
+    let conditions = sheet.conditions;
+    assert_eq!(rt; [entry.line, sheet.first, sheet.count], [24, 32, 33]);
     assert_eq!(rt; conditions.truss, 31);
     assert!(rt;
         matches!(
@@ -126,13 +127,16 @@ fn sheets(rt: HostRuntime) -> Result<(), Fail> {
     );
     assert!(rt; matches!(tried.turning, Turning::Turned));
     assert!(rt; job.sheets[1].tried.is_none());
-    assert_eq!(rt; job.sheets[1].sheet.conditions.truss, 7);
+    let AnySheet::Web(second) = job.sheets[1].sheet else {
+        return Err(Fail::new("no web sheet"));
+    };
+    assert_eq!(rt; second.conditions.truss, 7);
     Ok(())
 }
 
 #[test]
 fn rows(rt: HostRuntime) -> Result<(), Fail> {
-    let job = read(rt.alloc(), TEXT)?;
+    let job = read(rt.alloc(), Format::Webs, TEXT)?;
     assert!(rt; job.rows.len() == 2);
     let row = job.rows[0];
     assert_eq!(rt; [row.width, row.length, row.family], [41, 42, 43]);

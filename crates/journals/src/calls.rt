@@ -17,8 +17,8 @@ pub fn call_of(line: &mut Line) -> Result<Option<Call>, Fault>
     let Some(word) = line.word() else {
         return Ok(None);
     };
-    let Some(verb) = <Verb as Value>::read(word) else {
-        return Err(line.wrong(word, <Verb as Value>::expected()));
+    let Some(verb) = Verb::read(word) else {
+        return Err(line.wrong(word, Verb::expected()));
     };
     let call = numbered(verb, line)?;
     line.end()?;

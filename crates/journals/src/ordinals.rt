@@ -13,13 +13,8 @@ impl Value for Ordinal {
     ghost reads = { Counted };
 
     fn read(word: &str) -> Option<Ordinal> {
-        let number = <u32 as Value>::read(word)?;
-        if number == 0 {
-            return None;
-        }
-        Some(Ordinal {
-            index: (number - 1) as usize,
-        })
+        let index = u32::read(word)?.checked_sub(1)? as usize;
+        Some(Ordinal { index })
     }
 
     fn expected() -> Expected {

@@ -19,9 +19,8 @@ pub fn read(heap: Global, text: &str) -> Result<Vec<Entry>, Fault>
     ensures { IfOk result (λ v. Journal text.now v.items) }
 {
     let mut entries = Vec::new(heap);
-    let mut number = 0;
-    for line in text.lines() {
-        number += 1;
+    for (index, line) in text.lines().enumerate() {
+        let number = index + 1;
         if let Some(call) = call_of(&mut Line::new(heap, number, line))? {
             entries.push(Entry { line: number, call })?;
         }

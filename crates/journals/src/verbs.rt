@@ -4,7 +4,8 @@ ghost use Rattle.texts.specs.Words.{Named};
 ghost use Rattle.journals.specs.Says.{verb_of};
 ghost use Rattle.journals.specs.Verbs.{verb_word};
 
-use texts::{Expected, Value};
+use std::fmt;
+use texts::{Expected, Value, Word};
 use yard::Call;
 
 #[derive(Clone, Copy)]
@@ -36,20 +37,6 @@ impl Verb {
             Call::Tell { place: _ } => Verb::Tell,
         }
     }
-
-    pub fn word(self) -> &'static str
-        ensures { result.now ≡ verb_word self }
-    {
-        match self {
-            Verb::Receive => "receive",
-            Verb::Draw => "draw",
-            Verb::Tack => "tack",
-            Verb::Back => "back",
-            Verb::Press => "press",
-            Verb::Void => "void",
-            Verb::Tell => "tell",
-        }
-    }
 }
 
 impl Value for Verb {
@@ -70,5 +57,27 @@ impl Value for Verb {
 
     fn expected() -> Expected {
         Expected::OneOf("receive, draw, tack, back, press, void, tell")
+    }
+}
+
+impl Word for Verb {
+    ghost word = { verb_word };
+
+    fn word(self) -> &'static str {
+        match self {
+            Verb::Receive => "receive",
+            Verb::Draw => "draw",
+            Verb::Tack => "tack",
+            Verb::Back => "back",
+            Verb::Press => "press",
+            Verb::Void => "void",
+            Verb::Tell => "tell",
+        }
+    }
+}
+
+impl fmt::Display for Verb {
+    fn fmt<W: fmt::Write>(&self, f: &mut fmt::Formatter<W>) -> fmt::Result {
+        f.write_str(self.word())
     }
 }

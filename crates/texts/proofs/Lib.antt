@@ -1,3 +1,2 @@
 mod Longer
-pub mod Shorter
 pub mod Three

@@ -1,25 +1,25 @@
-use Rattle.std.proofs.Common.{◌≡◌, ◌+◌, length, sym, ap, ◌∙◌, subst, arith}
+use Rattle.std.proofs.Common.{◌≡◌, ◌+◌, sym, ap, ◌∙◌, subst}
 use Rattle.std.specs.Str.Iter.{lines_rest}
 use Rattle.texts.specs.Lines.{rest}
-use Rattle.texts.proofs.Shorter.{shorter}
 use Rattle.jobs.specs.Texts.{Reading, Step, begun, step, state}
 use Rattle.jobs.proofs.reader.read.Goals as goal
 
-pub loop-line-init : goal.loop-line-init
-loop-line-init c =
-    let text = c.args.text.now in
-    let left : lines_rest c.into_iter-line-iterator.result ≡ text = ap lines_rest c.into_iter-line-iterator.ensures.into_iter_gives ∙ c.lines-line-items.ensures.rest in (
-      subst (λ w. Reading c.args.format text 0 w (state c.new-reader.result)) (sym left) (subst (Reading c.args.format text 0 text) (sym c.new-reader.ensures) begun),
-      omega (arith, ap length left),
-    )
+pub loop-index-init : goal.loop-index-init
+loop-index-init c =
+    let read = Reading c.args.format c.args.text.now in
+    let same = c.into_iter-index-iterator.ensures.into_iter_gives in
+    let left = ap (λ i. lines_rest i.iter) same ∙ ap lines_rest c.enumerate-index-items.ensures.source ∙ c.lines.ensures.rest in
+    let none = ap (λ i. i.count) same ∙ c.enumerate-index-items.ensures.count in
+    subst (λ n. read n (lines_rest c.into_iter-index-iterator.result.iter) (state c.new-reader.result)) (sym none)
+    (subst (λ w. read 0 w (state c.new-reader.result)) (sym left) (subst (read 0 c.args.text.now) (sym c.new-reader.ensures) begun))
 
-pub loop-line-preserved : goal.loop-line-preserved
-loop-line-preserved c =
-    let from = c.loop-line in
-    let next = lines_rest c.next.new.self in
-    let turn = c.in-Some.ensures.steps.0 in
+pub loop-index-preserved : goal.loop-index-preserved
+loop-index-preserved c =
+    let from = c.loop-index in
+    let turn = c.in-Some.ensures.steps in
     let said = rest c.new.result in
-    let one : Step c.args.format (from.number + 1) said (state from.reader) (state c.take.new.self) =
-    subst (λ n. Step c.args.format n said (state from.reader) (state c.take.new.self)) c.new.ensures.number c.in_ok-take.ensures
+    let one : Step c.args.format (from.index-iterator.count + 1) said (state from.reader) (state c.take.new.self) =
+    subst (λ n. Step c.args.format n said (state from.reader) (state c.take.new.self)) (c.new.ensures.number ∙ ap (λ n. n + 1) turn.1) c.in_ok-take.ensures
     in
-    (step from.invariant.0 turn.2 c.new.ensures.said one, omega (arith, from.invariant.1, shorter (lines_rest from.line-iterator) c.in-Some.line.now next turn.0 turn.2))
+    subst (λ n. Reading c.args.format c.args.text.now n (lines_rest c.next.new.self.iter) (state c.take.new.self)) (sym turn.2)
+    (step from.invariant turn.0.0.2 c.new.ensures.said one)
