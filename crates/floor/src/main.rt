@@ -26,7 +26,9 @@ fn start(rt: &HostRuntime) -> Result<(), Failure> {
     let (Some(job), Some(journal)) = (args.next(), args.next()) else {
         return Err(Failure::Usage);
     };
-    let stamp = args.next().map_or(Some(STAMP), |word| u32::read(word.as_str()));
+    let stamp = args
+        .next()
+        .map_or(Some(STAMP), |word| u32::read(word.as_str()));
     let (Some(stamp), None) = (stamp, args.next()) else {
         return Err(Failure::Usage);
     };
