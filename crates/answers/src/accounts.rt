@@ -4,7 +4,7 @@ ghost use Rattle.answers.specs.Tallies.{ends, tally};
 
 use super::failures::Cause;
 use super::wording::Refused;
-use asking::{JobPile, NoAccount, explained};
+use asking::{JobPile, JobSheet, NoAccount};
 use choice::ExplainRow;
 use jobs::{Format, Job};
 use plates::{Clause, Plate, Supply, Verdict};
@@ -60,7 +60,7 @@ pub(crate) fn explain_all(
         println!(rt; "{HEADER}")?;
     }
     for (sheet, entry) in (1usize..).zip(job.sheets.iter()) {
-        match explained(rt.alloc(), job, entry) {
+        match (JobSheet { job, entry }).explained(rt.alloc()) {
             Ok(rows) => write_account(rt, job, sheet, rows.as_slice(), form)?,
             Err(NoAccount::Refused(refusal)) => write_last(
                 rt,

@@ -2,7 +2,7 @@
 use super::accounts::{Form, explain_all};
 use super::failures::{Cause, Source, text_of};
 use super::wording::Refused;
-use asking::{judgements, picked};
+use asking::{JobSheet, judgements};
 use jobs::{Format, Job};
 use plates::Refusal;
 use std::{fmt, io};
@@ -34,7 +34,7 @@ pub fn answer(
 
 fn choose_all(rt: &HostRuntime, format: Format, job: &Job) -> io::Result<()> {
     for (sheet, entry) in (1usize..).zip(job.sheets.iter()) {
-        tell(rt, format, sheet, picked(job, entry))?;
+        tell(rt, format, sheet, JobSheet { job, entry }.picked())?;
     }
     Ok(())
 }

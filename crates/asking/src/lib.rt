@@ -10,5 +10,5 @@ pub mod verdicts;
 pub use accounts::{NoAccount, account};
 pub use picks::{Picked, pick};
 pub use pile::JobPile;
-pub use sheets::{explained, joint_of, joints_of, judged, picked};
+pub use sheets::{JobSheet, joints_of};
 pub use verdicts::{Judgement, judgements};

@@ -40,11 +40,7 @@ impl fmt::Display for Picked {
         write!(
             f,
             "place {} {} {} area {} asked {}",
-            self.place,
-            self.turning,
-            self.plate,
-            self.area,
-            self.asked
+            self.place, self.turning, self.plate, self.area, self.asked
         )
     }
 }

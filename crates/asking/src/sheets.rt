@@ -12,11 +12,48 @@ use joints::AnyJoint;
 use plates::{Refusal, Verdict};
 use std::alloc::{AllocError, Global};
 
-// The joint of a sheet over the job's members and cards.
-pub fn joint_of<'a>(job: &'a Job, entry: &Entry) -> AnyJoint<'a>
-    ensures { Drawn job.now entry.now result }
-{
-    AnyJoint::new(entry.sheet, job.members.as_slice(), job.cards.as_slice())
+// A sheet of a job.
+#[derive(Clone, Copy)]
+pub struct JobSheet<'a> {
+    pub job: &'a Job,
+    pub entry: &'a Entry,
+}
+
+impl<'a> JobSheet<'a> {
+    // Its joint, over the job's members and cards.
+    pub fn joint(&self) -> AnyJoint<'a>
+        ensures { Drawn self.now.job.now self.now.entry.now result }
+    {
+        AnyJoint::new(
+            self.entry.sheet,
+            self.job.members.as_slice(),
+            self.job.cards.as_slice(),
+        )
+    }
+
+    // The least plate of the job's pile that passes its joint.
+    pub fn picked(&self) -> Result<Picked, Refusal>
+        ensures { Picks self.now.job.now self.now.entry.now result }
+    {
+        let joint = self.joint();
+        pick(&joint, &JobPile::new(self.job))
+    }
+
+    // The verdict on one plate for its joint.
+    pub fn judged(&self, tried: Tried) -> Result<Verdict, Refusal>
+        ensures { Judges self.now.job.now self.now.entry.now tried result }
+    {
+        let joint = self.joint();
+        judge(&joint, tried.plate, tried.turning)
+    }
+
+    // Why each plate of the pile passes its joint or not.
+    pub fn explained(&self, heap: Global) -> Result<Vec<ExplainRow>, NoAccount>
+        ensures { MatchResult result (λ v. Explains self.now.job.now self.now.entry.now v.items) (Unexplained self.now.job.now self.now.entry.now) }
+    {
+        let joint = self.joint();
+        account(heap, &joint, &JobPile::new(self.job))
+    }
 }
 
 // The joints of all sheets, in the order of the text.
@@ -25,33 +62,7 @@ pub fn joints_of<'a>(heap: Global, job: &'a Job) -> Result<Vec<AnyJoint<'a>>, Al
 {
     let mut joints = Vec::new(heap);
     for entry in job.sheets.iter() {
-        joints.push(joint_of(job, entry))?;
+        joints.push(JobSheet { job, entry }.joint())?;
     }
     Ok(joints)
-}
-
-// The least plate of the job's pile that passes the joint of a sheet.
-pub fn picked(job: &Job, entry: &Entry) -> Result<Picked, Refusal>
-    ensures { Picks job.now entry.now result }
-{
-    let joint = joint_of(job, entry);
-    let pile = JobPile::new(job);
-    pick(&joint, &pile)
-}
-
-// The verdict on one plate for the joint of a sheet.
-pub fn judged(job: &Job, entry: &Entry, tried: Tried) -> Result<Verdict, Refusal>
-    ensures { Judges job.now entry.now tried result }
-{
-    let joint = joint_of(job, entry);
-    judge(&joint, tried.plate, tried.turning)
-}
-
-// Why each plate of the pile passes the joint of a sheet or not.
-pub fn explained(heap: Global, job: &Job, entry: &Entry) -> Result<Vec<ExplainRow>, NoAccount>
-    ensures { MatchResult result (λ v. Explains job.now entry.now v.items) (Unexplained job.now entry.now) }
-{
-    let joint = joint_of(job, entry);
-    let pile = JobPile::new(job);
-    account(heap, &joint, &pile)
 }

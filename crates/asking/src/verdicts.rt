@@ -3,7 +3,7 @@ ghost use Rattle.std.specs.Prelude.{◌≡◌, MatchResult};
 ghost use Rattle.texts.specs.Faults.{at_line};
 ghost use Rattle.asking.specs.Verdicts.{AllJudged, Untried};
 
-use super::sheets::judged;
+use super::sheets::JobSheet;
 use jobs::{Entry, Job};
 use plates::{Refusal, Verdict};
 use std::alloc::Global;
@@ -20,7 +20,7 @@ pub fn judgements(heap: Global, job: &Job) -> Result<Vec<Judgement>, Fault>
         let Some(tried) = entry.tried else {
             return Err(untried(entry));
         };
-        all.push(judged(job, entry, tried))?;
+        all.push(JobSheet { job, entry }.judged(tried))?;
     }
     Ok(all)
 }
