@@ -6,7 +6,12 @@ use jobs::Format;
 use std::process::ExitCode;
 
 fn main(rt: HostRuntime) -> ExitCode {
-    match answer(&rt, Format::Whole, Command::Explain(Form::Words), &Source::StandardInput) {
+    match answer(
+        &rt,
+        Format::Whole,
+        Command::Explain(Form::Words),
+        &Source::StandardInput,
+    ) {
         Ok(()) => ExitCode::SUCCESS,
         Err(_) => ExitCode::FAILURE,
     }

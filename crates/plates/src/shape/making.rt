@@ -3,9 +3,8 @@ ghost use Rattle.std.specs.Prelude.{◌≡◌, ◌*◌};
 ghost use Rattle.std.specs.Option.{option_map};
 ghost use Rattle.plates.specs.Size.{size, sized, area};
 
-use std::fmt;
-
 use super::{MAX_FAMILY, MAX_LENGTH, MAX_WIDTH, MIN_SIDE, Plate};
+use std::fmt;
 
 impl Plate {
     // The plate of these numbers, or nothing where no such plate exists.
@@ -56,12 +55,6 @@ impl Plate {
 
 impl fmt::Display for Plate {
     fn fmt<W: fmt::Write>(&self, f: &mut fmt::Formatter<W>) -> fmt::Result {
-        write!(
-            f,
-            "{} x {} family {}",
-            self.width,
-            self.length,
-            self.family
-        )
+        write!(f, "{} x {} family {}", self.width, self.length, self.family)
     }
 }
