@@ -2,7 +2,7 @@
 ghost use Rattle.std.specs.Prelude.{◌≡◌, not};
 ghost use Rattle.supplies.specs.Limits.{pressable, LimitLaws};
 
-use super::under::{Hides, Under};
+use super::covered::{Covered, Hide};
 use plates::Plate;
 
 // The widest and the longest that the press takes.
@@ -12,7 +12,7 @@ pub struct Press {
     pub(crate) length: u32,
 }
 
-pub type PressLimit<S> = Under<S, Press>;
+pub type PressLimit<S> = Covered<S, Press>;
 
 impl<S> PressLimit<S> {
     // The supply less the plates wider than `width` or longer than `length`.
@@ -22,14 +22,14 @@ impl<S> PressLimit<S> {
         ensures length { result.layer.length ≡ length }
         ensures laws { LimitLaws result.layer.width result.layer.length }
     {
-        Under {
+        Covered {
             supply,
             layer: Press { width, length },
         }
     }
 }
 
-impl Hides for Press {
+impl Hide for Press {
     ghost hides = { λ p _ s. not (pressable p.width p.length s) };
 
     fn hides(&self, _place: u32, plate: Plate) -> bool {
