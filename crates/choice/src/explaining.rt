@@ -42,6 +42,7 @@ fn has_room(free: usize, plates: usize) -> bool
 
 impl<J: Joint, S: Supply> Survey<'_, J, S> {
     // Appends the rows of all places, or none where the book has no room for them.
+    #[tactic(auto, using(crate::proofs::Accounts::account, crate::proofs::Entries::enough, crate::proofs::Entries::too_few))]
     fn enter_rows(&self, book: &mut RowBook<'_, ExplainRow>) -> Result<(), Refusal>
         ensures rows { Entered book.old (explained (J.verdict self.now.joint.now) (S.places self.now.supply.now) (S.shows self.now.supply.now)) book.new result }
         ensures account { Accounted (Ok tt) (J.verdict self.now.joint.now) (S.places self.now.supply.now) (S.shows self.now.supply.now) }

@@ -55,6 +55,7 @@ pub fn choose<J: Joint, S: Supply>(joint: &J, supply: &S) -> Result<Choice, Refu
 
 impl<J: Joint, S: Supply> Survey<'_, J, S> {
     // The least plate that passes, with every place asked.
+    #[tactic(auto, using(crate::proofs::End::all_asked))]
     fn least(&self) -> Result<Choice, Refusal>
         ensures { Answered (J.verdict self.now.joint.now) (S.places self.now.supply.now) (S.shows self.now.supply.now) result }
     {
@@ -68,6 +69,7 @@ impl<J: Joint, S: Supply> Survey<'_, J, S> {
     }
 
     // The best offer of the places up to and with this one, from the best of those before it.
+    #[tactic(auto, using(crate::proofs::Step::best_through))]
     fn best_through(&self, place: u32, best: Option<Offer>) -> Option<Offer>
         requires { Best (J.verdict self.now.joint.now) (below place (S.shows self.now.supply.now)) best }
         ensures { Best (J.verdict self.now.joint.now) (below (place + 1) (S.shows self.now.supply.now)) result }
