@@ -1,6 +1,6 @@
 // A press limit: a supply without the plates that are too wide or too long for the press.
-ghost use Rattle.std.specs.Prelude.{◌≡◌, not};
-ghost use Rattle.supplies.specs.Limits.{pressable, LimitLaws};
+ghost use Rattle.std.specs.Prelude.{◌≡◌};
+ghost use Rattle.supplies.specs.Limits.{limit_hides, LimitLaws};
 
 use super::covered::{Covered, Hide};
 use plates::Plate;
@@ -30,7 +30,7 @@ impl<S> PressLimit<S> {
 }
 
 impl Hide for Press {
-    ghost hides = { λ p _ s. not (pressable p.width p.length s) };
+    ghost hides = { λ p. limit_hides p.width p.length };
 
     fn hides(&self, _place: u32, plate: Plate) -> bool {
         plate.width() > self.width || plate.length() > self.length

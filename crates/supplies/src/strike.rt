@@ -1,6 +1,6 @@
 // A strike list: a supply some places of which are struck, and show nothing.
-ghost use Rattle.std.specs.Prelude.{◌≡◌, take};
-ghost use Rattle.supplies.specs.Strikes.{listed, StrikeLaws};
+ghost use Rattle.std.specs.Prelude.{◌≡◌};
+ghost use Rattle.supplies.specs.Strikes.{strike_hides, StrikeLaws};
 
 use super::covered::{Covered, Hide};
 use plates::Plate;
@@ -28,7 +28,7 @@ impl<'a, S> StrikeList<'a, S> {
 }
 
 impl Hide for Strikes<'_> {
-    ghost hides = { λ p k _. listed (take 32 p.0.now) k };
+    ghost hides = { λ p. strike_hides p.0.now };
 
     fn hides(&self, place: u32, _plate: Plate) -> bool {
         self.0
