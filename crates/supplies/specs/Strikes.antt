@@ -9,7 +9,7 @@ use Rattle.supplies.specs.Shown.{AllExist, NothingFrom, Same}
 abbrev pub listed : List ℕ → ℕ → Bool
 listed js k = list_any (λ j. j == k) js
 
--- whatever plate is hidden at the first 32 places of the list
+-- every plate is hidden at the first 32 places of the list
 abbrev pub strike_hides : List ℕ → ℕ → Size → Bool
 strike_hides struck k s = listed (take 32 struck) k
 
