@@ -12,8 +12,7 @@ use Rattle.plates.specs.declared.verdicts.Verdict.TheVariants.{Passes}
 use Rattle.choice.specs.declared.Choice.{Choice}
 use Rattle.choice.specs.declared.explaining.ExplainRow.{ExplainRow}
 use Rattle.choice.specs.Choosing.{Answered}
-use Rattle.choice.specs.Explaining.{explained, row_of, rows_at, Account, Accounted, Agrees, Before, InOrder, Tells}
-use Rattle.choice.proofs.Below.{some_is_not_none}
+use Rattle.choice.specs.Explaining.{explained, row_of, rows_at, Account, Agrees, Before, InOrder, Tells}
 use Rattle.choice.proofs.Rows.{length_explained}
 
 -- what holds of the rows of each of the first n places holds of all their rows
@@ -69,7 +68,7 @@ account v n shows beyond = record { tells = tells; whole = whole; ordered = in_o
 
     whole : (k : ℕ) (s : Size) (t : Turning) → shows k ≡ Some s → Has (explained v n shows) (row_of v k s t)
     whole k s t e =
-        ⊎_elim (λ l. has_row v n shows k s t l e) (λ l. absurd (some_is_not_none (beyond k l) e)) (cases_lt k n)
+        ⊎_elim (λ l. has_row v n shows k s t l e) (λ l. let none = beyond k l in cc) (cases_lt k n)
 
     agrees : (r : Result Choice Refusal) → Answered v n shows r → Agrees (explained v n shows) r
     agrees (Ok c) a =
@@ -80,6 +79,3 @@ account v n shows beyond = record { tells = tells; whole = whole; ordered = in_o
         All-weaker (Tells v shows) (λ x. x.verdict ≡ Passes → ⊥)
         (λ x w p. a.1 x.place x.turning w.0 (w.1, sym w.2 ∙ p))
         (explained v n shows) tells
-
-pub accounted : (v : Size → Turning → Verdict) {st : Result (Unit {0}) Refusal} (n : ℕ) (shows : ℕ → Option Size) → Ok tt ≡ st → ((k : ℕ) → n ≤ k → shows k ≡ None) → Accounted st v n shows
-accounted v n shows lawful beyond = subst (λ st. Accounted st v n shows) lawful (account v n shows beyond)

@@ -11,14 +11,11 @@ use Rattle.choice.specs.declared.Offer.{Offer}
 use Rattle.choice.specs.Choosing.{Fits, NoLater}
 use Rattle.choice.specs.Offers.{below, offered, placed}
 
-pub some_is_not_none : {o : Option Size} {s : Size} → o ≡ None → o ≡ Some s → ⊥
-some_is_not_none n e = let z : ◌≡◌ {A = ℕ} 0 1 = cc in omega arith
-
 -- what fits below n fits, and its place is below n; and back
 pub fits_out : (v : Size → Turning → Verdict) (shows : ℕ → Option Size) (n j : ℕ) (u : Turning) (s : Size) → Fits v (below n shows) j u s → (j < n) × Fits v shows j u s
 fits_out v shows n j u s f =
     ⊎_elim (λ t. (ltb-true j n t, (sym (cond-true (ltb j n) (shows j) None t) ∙ f.0, f.1)))
-    (λ t. absurd (some_is_not_none (cond-false (ltb j n) (shows j) None t) f.0))
+    (λ t. let none = cond-false (ltb j n) (shows j) None t in cc)
     (cases_Bool (ltb j n))
 
 pub fits_in : (v : Size → Turning → Verdict) (shows : ℕ → Option Size) (n j : ℕ) (u : Turning) (s : Size) → j < n → Fits v shows j u s → Fits v (below n shows) j u s
@@ -27,7 +24,7 @@ fits_in v shows n j u s h f = (cond-true (ltb j n) (shows j) None (lt-ltb j n h)
 -- where nothing is shown from n on, all that fits is below n
 pub fits_all : (v : Size → Turning → Verdict) (shows : ℕ → Option Size) (n : ℕ) → ((k : ℕ) → n ≤ k → shows k ≡ None) → (j : ℕ) (u : Turning) (s : Size) → Fits v shows j u s → Fits v (below n shows) j u s
 fits_all v shows n beyond j u s f =
-    ⊎_elim (λ h. fits_in v shows n j u s h f) (λ h. absurd (some_is_not_none (beyond j h) f.0)) (cases_lt j n)
+    ⊎_elim (λ h. fits_in v shows n j u s h f) (λ h. let none = beyond j h in cc) (cases_lt j n)
 
 -- what fits below k + 1 fits below k or at k
 pub fits_either : (v : Size → Turning → Verdict) (shows : ℕ → Option Size) (k j : ℕ) (u : Turning) (s : Size) → Fits v (below (k + 1) shows) j u s → Fits v (below k shows) j u s ⊎ ((k ≡ j) × Fits v shows k u s)
@@ -55,10 +52,10 @@ same_plate e f = cc
 
 passes_true : (w : Verdict) → passes w ≡ true → w ≡ Passes
 passes_true Passes e = refl
-passes_true (Misses c m) e = let z : ◌≡◌ {A = ℕ} 0 1 = cc in absurd (omega arith)
+passes_true (Misses c m) e = cc
 
 passes_false : (w : Verdict) → passes w ≡ false → w ≡ Passes → ⊥
-passes_false w e p = let q = ap passes p in let z : ◌≡◌ {A = ℕ} 0 1 = cc in omega arith
+passes_false w e p = let q = ap passes p in cc
 
 -- a turning that fails for the plate shown fits no plate there
 fails : (v : Size → Turning → Verdict) (shows : ℕ → Option Size) (k : ℕ) (p : Size) (t : Turning) → shows k ≡ Some p → passes (v p t) ≡ false → (s : Size) → Fits v shows k t s → ⊥
@@ -82,7 +79,7 @@ at_neither v shows k p e h h' Turned s f = fails v shows k p Turned e h' s f
 
 -- what place k offers is the offer of place k
 pub offered_at : (v : Size → Turning → Verdict) (shows : ℕ → Option Size) (k : ℕ) (o : Option Size) → shows k ≡ o → At v shows k (offered v k o)
-offered_at v shows k None e = λ u s f. some_is_not_none e f.0
+offered_at v shows k None e = λ u s f. cc
 offered_at v shows k (Some p) e =
     cond_both (passes (v p Unturned)) (Some Unturned) (cond (passes (v p Turned)) (Some Turned) None) (λ t. At v shows k (placed k p t))
     (λ h. at_unturned v shows k p e h)

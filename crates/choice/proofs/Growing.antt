@@ -1,5 +1,5 @@
 -- A book that takes the rows of one place after another.
-use Rattle.std.proofs.Common.{◌≡◌, ℕ, ◌+◌, ◌<◌, ◌≤◌, [], ◌∷◌, length, Some, None, Option, sym, subst, arith}
+use Rattle.std.proofs.Common.{◌≡◌, ℕ, ◌+◌, ◌<◌, ◌≤◌, [], ◌∷◌, length, Some, Option, sym, subst, arith}
 use Rattle.plates.specs.Size.{Size}
 use Rattle.plates.specs.declared.turnings.Turning.{Turning}
 use Rattle.plates.specs.declared.turnings.Turning.TheVariants.{Unturned, Turned}
@@ -8,12 +8,8 @@ use Rattle.choice.specs.declared.book.RowBook.{RowBook}
 use Rattle.choice.specs.declared.explaining.ExplainRow.{ExplainRow}
 use Rattle.choice.specs.Books.{memory, Grown, Stored}
 use Rattle.choice.specs.Explaining.{explained, row_of, rows_at}
-use Rattle.choice.proofs.Written.{grown_none, grown_one, grown_more, length_grown}
+use Rattle.choice.proofs.Written.{grown_one, grown_more, length_grown}
 use Rattle.choice.proofs.Rows.{explained_more, explained_within}
-
--- a place that shows nothing leaves the book as it is
-pub none_grown : (v : Size → Turning → Verdict) (k : ℕ) {o : Option Size} (b : RowBook ExplainRow) → None ≡ o → Grown b (rows_at v k o) b
-none_grown v k b e = subst (λ o. Grown b (rows_at v k o) b) e (grown_none b)
 
 -- a plate's two rows, one after the other: there is room for the first, and then for the second
 two_free : (v : Size → Turning → Verdict) (k : ℕ) (s : Size) {o : Option Size} (a : RowBook ExplainRow) → Some s ≡ o → a.used + length (rows_at v k o) ≤ length (memory a) → a.used + 2 ≤ length (memory a)

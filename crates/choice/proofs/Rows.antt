@@ -1,10 +1,10 @@
 -- How many rows the places have.
-use Rattle.std.proofs.Common.{◌≡◌, ℕ, zero, suc, ◌+◌, ◌*◌, ◌<◌, ◌≤◌, Bool, cond, ◌++◌, length, is_some, Some, None, Option, sym, refl, ap, ◌∙◌, subst, ⊎_elim, add-one, arith}
+use Rattle.std.proofs.Common.{◌≡◌, ℕ, zero, suc, ◌+◌, ◌*◌, ◌<◌, ◌≤◌, cond, ◌++◌, length, map-id, is_some, Some, None, Option, refl, ap, ◌∙◌, zero-add, subst, ⊎_elim, add-one, arith}
 use Rattle.std.proofs.lemmas.List.{length-append}
 use Rattle.std.proofs.lemmas.Bool.{cases_lt}
-use Rattle.std.specs.Option.{option_map}
-use Rattle.plates.specs.Size.{Size, size}
-use Rattle.plates.specs.declared.shape.Plate.{Plate}
+use Rattle.std.specs.List.{count_by, range_with_len}
+use Rattle.std.proofs.lemmas.List.FromFn.{sum_by-map-range_with_len_more}
+use Rattle.plates.specs.Size.{Size}
 use Rattle.plates.specs.declared.turnings.Turning.{Turning}
 use Rattle.plates.specs.declared.verdicts.Verdict.{Verdict}
 use Rattle.choice.specs.Explaining.{explained, rows_at, shown}
@@ -13,13 +13,13 @@ use Rattle.choice.specs.Explaining.{explained, rows_at, shown}
 pub explained_more : (v : Size → Turning → Verdict) (n : ℕ) (shows : ℕ → Option Size) → explained v (n + 1) shows ≡ explained v n shows ++ rows_at v n (shows n)
 explained_more v n shows = rw add-one
 
--- one more place where a plate came, or nothing
-some_shown : (o : Option Plate) {b : Bool} → b ≡ is_some o → is_some (option_map size o) ≡ b
-some_shown None e = sym e
-some_shown (Some p) e = sym e
-
-pub shown_more : (n : ℕ) (shows : ℕ → Option Size) (o : Option Plate) {b : Bool} → option_map size o ≡ shows n → b ≡ is_some o → shown (n + 1) shows ≡ shown n shows + cond b 1 0
-shown_more n shows o e t = rw add-one (ap (λ x. shown n shows + cond x 1 0) (ap is_some (sym e) ∙ some_shown o t))
+-- the places that show a plate, counted
+pub shown_counted : (n : ℕ) (shows : ℕ → Option Size) → count_by (λ k. is_some (shows k)) (range_with_len 0 n) ≡ shown n shows
+shown_counted zero shows = refl
+shown_counted (suc n) shows =
+    let one : ℕ → ℕ = λ k. cond (is_some (shows k)) 1 0 in
+    let more = simp add-one at (simp map-id at (sum_by-map-range_with_len_more one (λ k. k) 0 n n (zero-add n))) in
+    more ∙ ap (λ m. m + one n) (shown_counted n shows)
 
 two_or_none : (v : Size → Turning → Verdict) (k : ℕ) (o : Option Size) → length (rows_at v k o) ≡ 2 * cond (is_some o) 1 0
 two_or_none v k None = refl

@@ -2,19 +2,21 @@
 // row book that takes what is explained.
 #![tactic(auto)]
 
-ghost use Rattle.std.specs.Prelude.{◌≡◌, ◌+◌, Ok};
+ghost use Rattle.std.specs.Prelude.{◌≡◌, ◌+◌};
 ghost use Rattle.plates.specs.Size.{size};
-ghost use Rattle.choice.specs.Choosing.{Judged, Chosen};
+ghost use Rattle.choice.specs.Choosing.{Answered, Chosen, Judged};
 ghost use Rattle.choice.specs.Offers.{answered, below, Best, first_passing, lesser_of, offered};
 
 pub mod book;
 pub mod explaining;
+mod survey;
 #[cfg(test)]
 mod tests;
 
 pub use book::RowBook;
 pub use explaining::{ExplainRow, explain};
 use plates::{Joint, Plate, Refusal, Supply, Turning, Verdict};
+use survey::Survey;
 
 // A candidate: the place of a plate and its turning.
 pub type Candidate = (u32, Turning);
@@ -48,78 +50,72 @@ pub fn judge<J: Joint>(joint: &J, plate: Plate, turning: Turning) -> Result<Verd
 pub fn choose<J: Joint, S: Supply>(joint: &J, supply: &S) -> Result<Choice, Refusal>
     ensures { Chosen (J.standing joint.now) (J.verdict joint.now) (S.places supply.now) (S.shows supply.now) result }
 {
-    joint.standing()?;
-    let mut best = None;
-    let mut asked = 0;
-    for place in 0..supply.places() {
-        asked += 1;
-        best = best_through(joint, supply, place, best);
-    }
-    answer(best, asked)
+    Survey::of(joint, supply)?.least()
 }
 
-// The best offer of the places up to and with this one, from the best of those before it.
-fn best_through<J: Joint, S: Supply>(
-    joint: &J,
-    supply: &S,
-    place: u32,
-    best: Option<Offer>,
-) -> Option<Offer>
-    requires lawful { J.standing joint.now ≡ Ok tt }
-    requires before { Best (J.verdict joint.now) (below place (S.shows supply.now)) best }
-    ensures { Best (J.verdict joint.now) (below (place + 1) (S.shows supply.now)) result }
-{
-    lesser(best, offer_at(joint, supply, place))
-}
-
-// What the plate at one place offers, if it passes.
-fn offer_at<J: Joint, S: Supply>(joint: &J, supply: &S, place: u32) -> Option<Offer>
-    requires { J.standing joint.now ≡ Ok tt }
-    ensures { result ≡ offered (J.verdict joint.now) place (S.shows supply.now place) }
-{
-    let plate = supply.plate(place)?;
-    let turning = passing_turning(joint, plate)?;
-    Some(Offer {
-        candidate: (place, turning),
-        area: plate.area(),
-    })
-}
-
-// The first turning in which the plate passes: unturned is tried first.
-fn passing_turning<J: Joint>(joint: &J, plate: Plate) -> Option<Turning>
-    requires { J.standing joint.now ≡ Ok tt }
-    ensures { result ≡ first_passing (J.verdict joint.now (size plate)) }
-{
-    if joint.verdict(plate, Turning::Unturned).passes() {
-        return Some(Turning::Unturned);
+impl<J: Joint, S: Supply> Survey<'_, J, S> {
+    // The least plate that passes, with every place asked.
+    #[tactic(auto, using(crate::proofs::End::all_asked))]
+    fn least(&self) -> Result<Choice, Refusal>
+        ensures { Answered (J.verdict self.now.joint.now) (S.places self.now.supply.now) (S.shows self.now.supply.now) result }
+    {
+        let mut best = None;
+        let mut asked = 0;
+        for place in 0..self.supply.places() {
+            asked += 1;
+            best = self.best_through(place, best);
+        }
+        answer(best, asked)
     }
-    if joint.verdict(plate, Turning::Turned).passes() {
-        return Some(Turning::Turned);
+
+    // The best offer of the places up to and with this one, from the best of those before it.
+    #[tactic(auto, using(crate::proofs::Step::best_through))]
+    fn best_through(&self, place: u32, best: Option<Offer>) -> Option<Offer>
+        requires { Best (J.verdict self.now.joint.now) (below place (S.shows self.now.supply.now)) best }
+        ensures { Best (J.verdict self.now.joint.now) (below (place + 1) (S.shows self.now.supply.now)) result }
+    {
+        lesser(best, self.offer_at(place))
     }
-    None
+
+    // What the plate at one place offers, if it passes.
+    fn offer_at(&self, place: u32) -> Option<Offer>
+        ensures { result ≡ offered (J.verdict self.now.joint.now) place (S.shows self.now.supply.now place) }
+    {
+        let plate = self.supply.plate(place)?;
+        let turning = self.passing_turning(plate)?;
+        Some(Offer {
+            candidate: (place, turning),
+            area: plate.area(),
+        })
+    }
+
+    // The first turning in which the plate passes: unturned is tried first.
+    fn passing_turning(&self, plate: Plate) -> Option<Turning>
+        ensures { result ≡ first_passing (J.verdict self.now.joint.now (size plate)) }
+    {
+        [Turning::Unturned, Turning::Turned]
+            .into_iter()
+            .find(|turning| self.verdict(plate, *turning).passes())
+    }
 }
 
 // The offer of less area; of equal ones the earlier.
 fn lesser(earlier: Option<Offer>, later: Option<Offer>) -> Option<Offer>
     ensures { result ≡ lesser_of earlier later }
 {
-    match (earlier, later) {
-        (Some(old), Some(new)) if new.area < old.area => later,
-        (Some(_), _) => earlier,
-        (None, _) => later,
-    }
+    later
+        .filter(|new| earlier.is_none_or(|old| new.area < old.area))
+        .or(earlier)
 }
 
 // What a search answers that came to this offer.
 fn answer(best: Option<Offer>, asked: u32) -> Result<Choice, Refusal>
     ensures { result ≡ answered best asked }
 {
-    match best {
-        Some(offer) => Ok(Choice {
-            candidate: offer.candidate,
-            area: offer.area,
-            asked,
-        }),
-        None => Err(Refusal::NothingFits),
-    }
+    best.map(|offer| Choice {
+        candidate: offer.candidate,
+        area: offer.area,
+        asked,
+    })
+    .ok_or(Refusal::NothingFits)
 }

@@ -1,12 +1,12 @@
 -- What shows through layers that are written down as a list.
-use Rattle.std.specs.Prelude.{ℕ, Bool, not, List, [], ◌∷◌, ◌++◌, take, Option}
+use Rattle.std.specs.Prelude.{ℕ, Bool, List, [], ◌∷◌, ◌++◌, Option}
 use Rattle.std.specs.List.{list_any}
 use Rattle.plates.specs.Size.{Size}
 use Rattle.supplies.specs.Few.{few}
 use Rattle.supplies.specs.Hiding.{unless, unhidden}
-use Rattle.supplies.specs.Limits.{pressable, limit_shows}
+use Rattle.supplies.specs.Limits.{limit_hides, limit_shows}
 use Rattle.supplies.specs.Shown.{AllExist, Same}
-use Rattle.supplies.specs.Strikes.{listed, strike_shows}
+use Rattle.supplies.specs.Strikes.{strike_hides, strike_shows}
 use Rattle.supplies.specs.declared.few.Few.{Few}
 use Rattle.supplies.specs.declared.layered.Layer.{Layer}
 use Rattle.supplies.specs.declared.layered.Layer.TheVariants.{Press, Strike}
@@ -17,8 +17,8 @@ struck_places s = few s
 
 -- the layer hides this plate at this place
 abbrev pub hides : Layer → ℕ → Size → Bool
-hides (Press width length) k s = not (pressable width length s)
-hides (Strike struck) k s = listed (take 32 (struck_places struck)) k
+hides (Press width length) = limit_hides width length
+hides (Strike struck) = strike_hides (struck_places struck)
 
 -- one of the layers hides it
 abbrev pub hidden : List Layer → ℕ → Size → Bool

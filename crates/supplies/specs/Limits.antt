@@ -8,9 +8,13 @@ use Rattle.supplies.specs.Shown.{AllExist, Same}
 abbrev pub pressable : ℕ → ℕ → Size → Bool
 pressable width length s = nat_le s.width width && nat_le s.length length
 
+-- a plate that does not is hidden, at whatever place
+abbrev pub limit_hides : ℕ → ℕ → ℕ → Size → Bool
+limit_hides width length k s = not (pressable width length s)
+
 -- each place shows its plate below, where that goes into the press
 abbrev pub limit_shows : ℕ → ℕ → (ℕ → Option Size) → ℕ → Option Size
-limit_shows width length = unhidden (λ _ s. not (pressable width length s))
+limit_shows width length = unhidden (limit_hides width length)
 
 pub record LimitLaws (width length : ℕ) : Type 0 where
   -- limits that every plate meets hide nothing

@@ -9,9 +9,13 @@ use Rattle.supplies.specs.Shown.{AllExist, NothingFrom, Same}
 abbrev pub listed : List ℕ → ℕ → Bool
 listed js k = list_any (λ j. j == k) js
 
+-- every plate is hidden at the first 32 places of the list
+abbrev pub strike_hides : List ℕ → ℕ → Size → Bool
+strike_hides struck k s = listed (take 32 struck) k
+
 -- the first 32 places of the list show nothing, each other what it shows below
 abbrev pub strike_shows : List ℕ → (ℕ → Option Size) → ℕ → Option Size
-strike_shows struck = unhidden (λ k _. listed (take 32 struck) k)
+strike_shows struck = unhidden (strike_hides struck)
 
 pub record StrikeLaws (struck : List ℕ) : Type 0 where
   -- an empty strike list hides nothing

@@ -2,10 +2,10 @@
 ghost use Rattle.std.specs.Prelude.{◌≡◌};
 ghost use Rattle.supplies.specs.Layers.{hidden, hides, LayerLaws};
 
+use super::covered::{Covered, Hide};
 use super::few::Few;
 use super::limit::Press;
 use super::strike::Strikes;
-use super::under::{Hides, Under};
 use plates::Plate;
 
 // A press limit, or a strike list.
@@ -19,7 +19,7 @@ pub enum Layer {
 #[derive(Clone, Copy)]
 pub struct Layers<'a>(&'a [Layer]);
 
-pub type Layered<'a, S> = Under<S, Layers<'a>>;
+pub type Layered<'a, S> = Covered<S, Layers<'a>>;
 
 impl<'a, S> Layered<'a, S> {
     // What is shown is what shows through every layer.
@@ -28,14 +28,14 @@ impl<'a, S> Layered<'a, S> {
         ensures layers { result.layer.0.now ≡ layers.now }
         ensures laws { LayerLaws result.layer.0.now }
     {
-        Under {
+        Covered {
             supply,
             layer: Layers(layers),
         }
     }
 }
 
-impl Hides for Layer {
+impl Hide for Layer {
     ghost hides = { hides };
 
     fn hides(&self, place: u32, plate: Plate) -> bool {
@@ -46,7 +46,7 @@ impl Hides for Layer {
     }
 }
 
-impl Hides for Layers<'_> {
+impl Hide for Layers<'_> {
     ghost hides = { λ ls. hidden ls.0.now };
 
     fn hides(&self, place: u32, plate: Plate) -> bool {

@@ -2,20 +2,20 @@
 #![tactic(auto)]
 
 pub mod coil;
+pub mod covered;
 pub mod few;
 pub mod layered;
 pub mod limit;
 pub mod list;
 pub mod strike;
-pub mod under;
 
 pub use coil::CoilCutter;
+pub use covered::{Covered, Hide};
 pub use few::Few;
 pub use layered::{Layer, Layered};
 pub use limit::PressLimit;
 pub use list::{MakersList, Row};
 pub use strike::StrikeList;
-pub use under::{Hides, Under};
 
 #[cfg(test)]
 mod tests;

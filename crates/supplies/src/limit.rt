@@ -1,8 +1,8 @@
 // A press limit: a supply without the plates that are too wide or too long for the press.
-ghost use Rattle.std.specs.Prelude.{◌≡◌, not};
-ghost use Rattle.supplies.specs.Limits.{pressable, LimitLaws};
+ghost use Rattle.std.specs.Prelude.{◌≡◌};
+ghost use Rattle.supplies.specs.Limits.{limit_hides, LimitLaws};
 
-use super::under::{Hides, Under};
+use super::covered::{Covered, Hide};
 use plates::Plate;
 
 // The widest and the longest that the press takes.
@@ -12,7 +12,7 @@ pub struct Press {
     pub(crate) length: u32,
 }
 
-pub type PressLimit<S> = Under<S, Press>;
+pub type PressLimit<S> = Covered<S, Press>;
 
 impl<S> PressLimit<S> {
     // The supply less the plates wider than `width` or longer than `length`.
@@ -22,15 +22,15 @@ impl<S> PressLimit<S> {
         ensures length { result.layer.length ≡ length }
         ensures laws { LimitLaws result.layer.width result.layer.length }
     {
-        Under {
+        Covered {
             supply,
             layer: Press { width, length },
         }
     }
 }
 
-impl Hides for Press {
-    ghost hides = { λ p _ s. not (pressable p.width p.length s) };
+impl Hide for Press {
+    ghost hides = { λ p. limit_hides p.width p.length };
 
     fn hides(&self, _place: u32, plate: Plate) -> bool {
         plate.width() > self.width || plate.length() > self.length

@@ -1,8 +1,8 @@
 // A strike list: a supply some places of which are struck, and show nothing.
-ghost use Rattle.std.specs.Prelude.{◌≡◌, take};
-ghost use Rattle.supplies.specs.Strikes.{listed, StrikeLaws};
+ghost use Rattle.std.specs.Prelude.{◌≡◌};
+ghost use Rattle.supplies.specs.Strikes.{strike_hides, StrikeLaws};
 
-use super::under::{Hides, Under};
+use super::covered::{Covered, Hide};
 use plates::Plate;
 
 // The places struck beyond these are not read.
@@ -11,7 +11,7 @@ const MAX_STRUCK: usize = 32;
 #[derive(Clone, Copy)]
 pub struct Strikes<'a>(pub(crate) &'a [u32]);
 
-pub type StrikeList<'a, S> = Under<S, Strikes<'a>>;
+pub type StrikeList<'a, S> = Covered<S, Strikes<'a>>;
 
 impl<'a, S> StrikeList<'a, S> {
     // The supply less the places struck: the others keep their numbers.
@@ -20,15 +20,15 @@ impl<'a, S> StrikeList<'a, S> {
         ensures struck { result.layer.0.now ≡ struck.now }
         ensures laws { StrikeLaws result.layer.0.now }
     {
-        Under {
+        Covered {
             supply,
             layer: Strikes(struck),
         }
     }
 }
 
-impl Hides for Strikes<'_> {
-    ghost hides = { λ p k _. listed (take 32 p.0.now) k };
+impl Hide for Strikes<'_> {
+    ghost hides = { λ p. strike_hides p.0.now };
 
     fn hides(&self, place: u32, _plate: Plate) -> bool {
         self.0

@@ -1,5 +1,5 @@
 // The supplies on examples: the place count, and width and length at some places.
-use super::{CoilCutter, MakersList, PressLimit, Row, StrikeList};
+use super::{CoilCutter, Few, Layer, Layered, MakersList, PressLimit, Row, StrikeList};
 use plates::Supply;
 use std::process::Abort;
 
@@ -140,4 +140,22 @@ fn layers_stack(rt: HostRuntime) {
     let low = PressLimit::new(both, 60, 100);
     let shown = [(0, None), (1, None), (2, Some((60, 100))), (3, None)];
     expect(&rt, &low, 4, &shown);
+}
+
+#[test]
+fn layers_of_a_list_stack(rt: HostRuntime) {
+    let list = MakersList::new(&ROWS);
+    let all = [(0, Some((100, 200))), (1, Some((120, 150))), (2, None)];
+    expect(&rt, &Layered::new(list, &[]), 3, &all);
+    let mut places = [2; 32];
+    places[31] = 0;
+    let none = [Layer::Strike(Few::new(places, 0))];
+    expect(&rt, &Layered::new(list, &none), 3, &all);
+    let press = Layer::Press {
+        width: 120,
+        length: 200,
+    };
+    let both = [press, Layer::Strike(Few::new(places, 40))];
+    let second = [(0, None), (1, Some((120, 150))), (2, None)];
+    expect(&rt, &Layered::new(list, &both), 3, &second);
 }

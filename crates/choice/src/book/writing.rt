@@ -34,7 +34,7 @@ impl<'a, R> RowBook<'a, R> {
     pub fn rows(&self) -> &[R]
         ensures { result.now ≡ take self.now.used (memory self.now) }
     {
-        &self.rows[0..self.used]
+        &self.rows[..self.used]
     }
 }
 

@@ -1,10 +1,6 @@
-use Rattle.std.proofs.Common.{◌∙◌, arith}
-use Rattle.supplies.proofs.Cuts.{cut_shown, width_read}
+use Rattle.std.proofs.Common.{◌∙◌}
+use Rattle.supplies.proofs.Cuts.{cut_shown}
 use Rattle.supplies.proofs.coil.CoilCutterSupply.plate.Goals as goal
-
-pub bounds-self-place : goal.bounds-self-place
-bounds-self-place c =
-    omega (arith, width_read c.args.self.now.widths.now c.args.self.now.steps c.steps_read-steps.result c.places.result c.args.place c.steps_read-steps.ensures c.places.ensures.value c.if-place-places.false)
 
 pub returns : goal.returns
 returns c =

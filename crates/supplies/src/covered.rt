@@ -1,11 +1,11 @@
-// A supply under a layer, which hides some of its plates: the places keep their numbers.
+// A supply covered by a layer, which hides some of its plates: the places keep their numbers.
 ghost use Rattle.std.specs.Prelude.{◌≡◌, ℕ, Bool};
 ghost use Rattle.plates.specs.Size.{Size, size};
 ghost use Rattle.supplies.specs.Hiding.{unhidden};
 
 use plates::{Plate, Supply};
 
-pub trait Hides {
+pub trait Hide {
     ghost hides: { Self → ℕ → Size → Bool };
 
     // The layer hides this plate at this place.
@@ -14,12 +14,12 @@ pub trait Hides {
 }
 
 #[derive(Drop)]
-pub struct Under<S, L> {
+pub struct Covered<S, L> {
     pub(crate) supply: S,
     pub(crate) layer: L,
 }
 
-impl<S: Supply, L: Hides> Supply for Under<S, L> {
+impl<S: Supply, L: Hide> Supply for Covered<S, L> {
     ghost places = { λ u. S.places u.supply };
 
     ghost shows = { λ u. unhidden (L.hides u.layer) (S.shows u.supply) };

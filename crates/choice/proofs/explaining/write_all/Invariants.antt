@@ -1,7 +1,0 @@
--- The book has the rows of the places passed, in the same memory.
-use Rattle.choice.specs.Books.{Grown, OneMemory}
-use Rattle.choice.specs.Explaining.{explained}
-use Rattle.choice.proofs.explaining.write_all.Given as goal
-
-abbrev pub invariant-loop-place : goal.invariant-loop-place
-invariant-loop-place g l = Grown l.initial.book (explained (g.J.Joint.verdict l.joint) l.place (g.S.Supply.shows l.supply)) l.book × OneMemory l.initial.book l.book
