@@ -3,7 +3,7 @@ ghost use Rattle.std.specs.Prelude.{◌≡◌, ◌≤◌};
 ghost use Rattle.rules.specs.Heel.{by_table, rounded_up, Reaches, by_formula, ruled, factor_by, heel_factor};
 
 // How a heel sheet has its factor found.
-#[derive(Clone, Copy)]
+#[derive(Clone, Copy, PartialEq, Eq, Debug)]
 pub enum FactorRule {
     Table,
     Formula,

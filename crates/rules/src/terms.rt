@@ -24,26 +24,26 @@ pub struct Card {
     pub tooth: u32,
 }
 
-#[derive(Clone, Copy)]
+#[derive(Clone, Copy, PartialEq, Eq, Debug)]
 pub enum Force {
     Tension,
     Compression,
 }
 
-#[derive(Clone, Copy)]
+#[derive(Clone, Copy, PartialEq, Eq, Debug)]
 pub enum Species {
     SprucePineFir,
     DouglasFirLarch,
 }
 
-#[derive(Clone, Copy)]
+#[derive(Clone, Copy, PartialEq, Eq, Debug)]
 pub enum Axis {
     X,
     Y,
 }
 
 // How a side of a field is marked: inside the wood, at an edge of it, or at its end.
-#[derive(Clone, Copy)]
+#[derive(Clone, Copy, PartialEq, Eq, Debug)]
 pub enum Mark {
     Plain,
     Edge,
@@ -87,28 +87,28 @@ pub struct Member {
     pub field: Field,
 }
 
-#[derive(Clone, Copy)]
+#[derive(Clone, Copy, PartialEq, Eq, Debug)]
 pub enum Duration {
     Permanent,
     Standard,
     Short,
 }
 
-#[derive(Clone, Copy)]
+#[derive(Clone, Copy, PartialEq, Eq, Debug)]
 pub enum Service {
     SeasonedDry,
     UnseasonedDry,
     Wet,
 }
 
-#[derive(Clone, Copy)]
+#[derive(Clone, Copy, PartialEq, Eq, Debug)]
 pub enum Area {
     Net,
     Gross,
 }
 
 // The turnings that a sheet allows.
-#[derive(Clone, Copy)]
+#[derive(Clone, Copy, PartialEq, Eq, Debug)]
 pub enum Turnings {
     UnturnedOnly,
     TurnedOnly,
