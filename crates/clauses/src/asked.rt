@@ -268,22 +268,6 @@ impl LaidOver<'_> {
         let service = service_factor(self.trial.conditions.service);
         holds_slip(self.member.specified, ns, service, self.bearing())
     }
-
-    // The section of a splice through the member.
-    fn section(&self, wood: u32) -> Section
-        requires low { 1 ≤ wood }
-        requires high { wood ≤ 400 }
-        ensures value { result ≡ section (laid self.now.trial.now) self.now.member.now wood }
-        ensures bounds { SectionWithin result }
-    {
-        Section {
-            depth: self.member.depth,
-            wood,
-            side: self.across(),
-            steel: tensile(&self.trial.card, self.to_axis()),
-            pull: pull(self.member.force, self.member.normal),
-        }
-    }
 }
 
 // J: the plate's extent across the grain is at least 65 percent of the depth.
@@ -303,7 +287,14 @@ pub fn section(trial: &Trial, member: &Member, wood: u32) -> Section
     ensures value { result ≡ section (laid trial.now) member.now wood }
     ensures bounds { SectionWithin result }
 {
-    LaidOver { trial, member }.section(wood)
+    let over = LaidOver { trial, member };
+    Section {
+        depth: member.depth,
+        wood,
+        side: over.across(),
+        steel: tensile(&trial.card, over.to_axis()),
+        pull: pull(member.force, member.normal),
+    }
 }
 
 // Whether the member meets the clause; the clauses of the joint as a whole ask nothing of one member.
