@@ -34,14 +34,6 @@ fn square(z: i64) -> u64
     m * m
 }
 
-fn inside(side: u32, y: i64) -> bool
-    requires { side ≤ 1000 }
-    ensures { result ≡ inside side y }
-{
-    let reach = (50 * side) as i64;
-    (-reach..=reach).contains(&y)
-}
-
 // A section whose numbers lie within their ranges.
 #[derive(Clone, Copy)]
 pub(crate) struct RangedSection {
@@ -78,6 +70,14 @@ impl RangedSection {
         ensures { result ≡ axis self.now.section }
     {
         floored(100 * self.excess(), self.stiffness())
+    }
+
+    // The axis lies under the plate.
+    fn inside(&self, y: i64) -> bool
+        ensures { result ≡ inside self.now.section.side y }
+    {
+        let reach = (50 * self.section.side) as i64;
+        (-reach..=reach).contains(&y)
     }
 }
 
@@ -139,6 +139,7 @@ pub fn holds_moment(moment: u32, s: &Section) -> bool
         return true;
     }
     let section = *s;
-    let y = RangedSection { section }.axis();
-    inside(section.side, y) && BentSection { section, y }.resists(moment)
+    let ranged = RangedSection { section };
+    let y = ranged.axis();
+    ranged.inside(y) && BentSection { section, y }.resists(moment)
 }

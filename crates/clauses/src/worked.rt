@@ -100,7 +100,8 @@ pub fn worked_limits() -> WorkedLimits
 
 fn both_ways(rise: u32, run: u32) -> (u32, u32)
     requires rise { rise ≤ 10000 }
-    requires run { (1 ≤ run) × (run ≤ 10000) }
+    requires run_low { 1 ≤ run }
+    requires run_high { run ≤ 10000 }
     ensures { result ≡ (by_table rise run, by_formula rise run) }
 {
     (

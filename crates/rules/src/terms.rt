@@ -1,5 +1,7 @@
 // What a designer writes down: cards, members and the conditions of a sheet. The numbers are as
-// the caller wrote them; whether they lie in their ranges is found before a clause is read.
+// the caller wrote them; whether they lie in their ranges is found before a clause is read. So no
+// type here carries its ranges: the functions that compute with the numbers ask for them.
+
 // Four tooth or slip values in kPa for a pair of plates. In `p` the load runs along the grain,
 // in `q` across it; `p` and `q` are for load along the plate axis, `pt` and `qt` transverse to it.
 #[derive(Clone, Copy)]
