@@ -126,7 +126,7 @@ fn pull(force: Force, normal: u32) -> u32
     }
 }
 
-// A plate laid over a member, where the numbers of both lie within their ranges.
+// A plate that is laid, and a member under it, where the numbers of both lie within their ranges.
 #[derive(Clone, Copy)]
 struct LaidOver<'a> {
     trial: &'a Trial,

@@ -34,7 +34,8 @@ fn square(z: i64) -> u64
     m * m
 }
 
-// A section whose numbers lie within their ranges.
+// A section whose numbers lie within their ranges. `Section` does not say so itself, since the
+// definitions have the section of any numbers.
 #[derive(Clone, Copy)]
 pub(crate) struct RangedSection {
     pub(crate) section: Section,
@@ -110,7 +111,6 @@ impl BentSection {
         (18 * 38 * s.wood) as u64 * square((50 * s.depth) as i64 - self.y)
     }
 
-    #[tactic(auto, unfolding(crate::specs::Splice::pull_part))]
     fn pull_part(&self) -> i64
         ensures value { result ≡ pull_part self.now.section self.now.y }
         ensures low { negsuc 999999999999999 ≤ℤ result }
