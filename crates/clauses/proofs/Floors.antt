@@ -1,5 +1,5 @@
 -- A quotient rounded towards minus infinity is the greatest whole number that does not pass it.
-use Rattle.std.proofs.Common.{◌≡◌, ℕ, suc, ◌+◌, ◌*◌, ◌/◌, ◌^◌, ◌<◌, ◌≤◌, ℤ, pos, negsuc, ◌*ℤ◌, neg_ℤ, nat_abs, ◌≤ℤ◌, refl, add-mul, div-mul-le_self, arith, w64, SFits}
+use Rattle.std.proofs.Common.{◌≡◌, ℕ, suc, ◌+◌, ◌*◌, ◌/◌, ◌^◌, ◌<◌, ◌≤◌, ℤ, pos, negsuc, ◌*ℤ◌, neg_ℤ, ◌≤ℤ◌, refl, add-mul, div-mul-le_self, arith, w64, SFits}
 use Rattle.std.specs.Int.{int_div_euclid}
 use Rattle.std.proofs.lemmas.Nat.{div-add-mod', mod_below, div_below, le-div, mul-le}
 use Rattle.std.proofs.lemmas.Int.{ints}
@@ -30,11 +30,6 @@ floor (negsuc a) g some = record {
   reaches = omega (arith, ints, div-add-mod' a g, mod_below a g some, add-mul (a / g) 1 g);
   greatest = most_neg a g some;
 }
-
--- the size of a number between −m and m
-pub natAbs_up_to : (m : ℕ) (z : ℤ) → neg_ℤ (pos m) ≤ℤ z → z ≤ℤ pos m → nat_abs z ≤ m
-natAbs_up_to m (pos n) l h = omega (arith, ints)
-natAbs_up_to m (negsuc n) l h = omega (arith, ints)
 
 -- the product of a number up to a and one between −m and m
 pub between_products : (a b m : ℕ) (z : ℤ) → b ≤ a → neg_ℤ (pos m) ≤ℤ z → z ≤ℤ pos m → (neg_ℤ (pos (a * m)) ≤ℤ (pos b *ℤ z)) × ((pos b *ℤ z) ≤ℤ pos (a * m))

@@ -1,6 +1,5 @@
 // The clauses: what each asks of the joint, or of one member under a plate that is laid.
 ghost use Rattle.std.specs.Prelude.{◌≡◌, ◌*◌, ◌≤◌};
-ghost use Rattle.plates.specs.Size.{size};
 ghost use Rattle.clauses.specs.Clauses.{laid, allowed, short_teeth, to_axis, to_shear, crosswise, full, counted, bearing, bites, per_mm, holds_cross, crosses, tooth_resistance, capacity, normal_weight, holds_grip, grips, steel, pulls, shears, holds_slip, slips, extends, pull, section, meets};
 ghost use Rattle.rules.specs.Ranges.{CardWithin, MemberWithin};
 ghost use Rattle.clauses.specs.Within.{SectionWithin, TrialWithin};
@@ -17,12 +16,10 @@ use rules::{
 pub fn allowed(turnings: Turnings, turning: Turning) -> bool
     ensures { result ≡ allowed turnings turning }
 {
-    match (turnings, turning) {
-        (Turnings::UnturnedOnly, Turning::Unturned) => true,
-        (Turnings::UnturnedOnly, Turning::Turned) => false,
-        (Turnings::TurnedOnly, Turning::Unturned) => false,
-        (Turnings::TurnedOnly, Turning::Turned) => true,
-        (Turnings::Either, _) => true,
+    match turnings {
+        Turnings::UnturnedOnly => turning == Turning::Unturned,
+        Turnings::TurnedOnly => turning == Turning::Turned,
+        Turnings::Either => true,
     }
 }
 
@@ -34,30 +31,6 @@ pub fn short_teeth(card: &Card) -> bool
     2 * card.tooth <= 38
 }
 
-// The load's angle to the axis of the plate as it is laid.
-fn to_axis(turning: Turning, rho: u32) -> u32
-    requires { rho ≤ 90 }
-    ensures value { result ≡ to_axis turning rho }
-    ensures bound { result ≤ 90 }
-{
-    match turning {
-        Turning::Unturned => rho,
-        Turning::Turned => 90 - rho,
-    }
-}
-
-// The shear's angle to the axis of the plate as it is laid.
-fn to_shear(turning: Turning, sigma: u32) -> u32
-    requires { sigma ≤ 179 }
-    ensures value { result ≡ to_shear turning sigma }
-    ensures bound { result ≤ 179 }
-{
-    match turning {
-        Turning::Unturned => sigma,
-        Turning::Turned => (sigma + 90) % 180,
-    }
-}
-
 fn crosswise(axis: Axis) -> Axis
     ensures { result ≡ crosswise axis }
 {
@@ -65,57 +38,6 @@ fn crosswise(axis: Axis) -> Axis
         Axis::X => Axis::Y,
         Axis::Y => Axis::X,
     }
-}
-
-// The full side along an axis.
-fn full(trial: &Trial, member: &Member, axis: Axis) -> u32
-    requires { MemberWithin member.now }
-    ensures value { result ≡ full (laid trial.now) member.now axis }
-    ensures bound { result ≤ 1000 }
-{
-    let span = along(&member.field, axis);
-    full_side(&span, extent(&trial.plate, trial.turning, axis))
-}
-
-// The side along an axis of the area that the teeth count on.
-fn counted(trial: &Trial, member: &Member, axis: Axis) -> u32
-    requires trial { TrialWithin trial.now }
-    requires member { MemberWithin member.now }
-    ensures value { result ≡ counted trial.now.conditions.area (laid trial.now) member.now axis }
-    ensures bound { result ≤ 1000 }
-{
-    match trial.conditions.area {
-        Area::Net => {
-            let span = along(&member.field, axis);
-            net_side(
-                &span,
-                trial.card.tooth,
-                extent(&trial.plate, trial.turning, axis),
-            )
-        }
-        Area::Gross => full(trial, member, axis),
-    }
-}
-
-// The area that the teeth count on, in mm².
-fn bearing(trial: &Trial, member: &Member) -> u32
-    requires trial { TrialWithin trial.now }
-    requires member { MemberWithin member.now }
-    ensures value { result ≡ bearing (laid trial.now) member.now }
-    ensures bound { result ≤ 1000000 }
-{
-    let across = counted(trial, member, Axis::X);
-    let up = counted(trial, member, Axis::Y);
-    across * up
-}
-
-// D: both full sides reach the bite.
-fn bites(trial: &Trial, member: &Member) -> bool
-    requires { MemberWithin member.now }
-    ensures { result ≡ bites (laid trial.now) member.now }
-{
-    let least = bite(member.depth, trial.conditions.truss);
-    least <= full(trial, member, Axis::X) && least <= full(trial, member, Axis::Y)
 }
 
 // N for each mm of bite across the grain.
@@ -136,32 +58,6 @@ pub(crate) fn holds_cross(species: Species, load: u32, depth: u32, side: u32) ->
     ensures { result ≡ holds_cross species load depth side }
 {
     load <= 2500 || load - 2500 <= per_mm(species) * side || 3 * depth <= 4 * side
-}
-
-// E: the bite across the grain.
-fn crosses(trial: &Trial, member: &Member) -> bool
-    requires { MemberWithin member.now }
-    ensures { result ≡ crosses (laid trial.now) member.now }
-{
-    let side = full(trial, member, crosswise(member.grain));
-    holds_cross(member.species, member.cross, member.depth, side)
-}
-
-// The factored resistance of the teeth under the member's load, in kPa.
-fn tooth_resistance(trial: &Trial, member: &Member) -> u32
-    requires trial { TrialWithin trial.now }
-    requires member { MemberWithin member.now }
-    ensures value { result ≡ tooth_resistance (laid trial.now) member.now }
-    ensures bound { result ≤ 20700 }
-{
-    let values = cut_all(trial.conditions.area, trial.card.teeth);
-    let n = lateral(values, member.theta, to_axis(trial.turning, member.rho));
-    factored(
-        n,
-        trial.conditions.duration,
-        trial.conditions.service,
-        trial.factor,
-    )
 }
 
 // What the teeth hold over that area, in N.
@@ -202,16 +98,6 @@ pub(crate) fn holds_grip(force: Force, parallel: u32, normal: u32, capacity: u32
     4 * square(parallel) + weighed <= 4 * square(capacity)
 }
 
-// F: the resistance of the teeth.
-fn grips(trial: &Trial, member: &Member) -> bool
-    requires trial { TrialWithin trial.now }
-    requires member { MemberWithin member.now }
-    ensures { result ≡ grips (laid trial.now) member.now }
-{
-    let cap = capacity(tooth_resistance(trial, member), bearing(trial, member));
-    holds_grip(member.force, member.parallel, member.normal, cap)
-}
-
 // The factored resistance of steel of `value` N/mm over `side` mm.
 fn steel(value: u32, side: u32) -> u64
     requires value { value ≤ 20000 }
@@ -221,31 +107,6 @@ fn steel(value: u32, side: u32) -> u64
     60 * value as u64 * side as u64 / 100
 }
 
-// G: the steel takes the normal load of a member in tension.
-fn pulls(trial: &Trial, member: &Member) -> bool
-    requires trial { TrialWithin trial.now }
-    requires member { MemberWithin member.now }
-    ensures { result ≡ pulls (laid trial.now) member.now member.now.force }
-{
-    match member.force {
-        Force::Tension => {
-            let t = tensile(&trial.card, to_axis(trial.turning, member.rho));
-            member.normal as u64 <= steel(t, full(trial, member, member.interface))
-        }
-        Force::Compression => true,
-    }
-}
-
-// H: the steel takes the load along the interface.
-fn shears(trial: &Trial, member: &Member) -> bool
-    requires trial { TrialWithin trial.now }
-    requires member { MemberWithin member.now }
-    ensures { result ≡ shears (laid trial.now) member.now }
-{
-    let v = shearing(&trial.card, to_shear(trial.turning, member.sigma));
-    member.parallel as u64 <= steel(v, full(trial, member, member.interface))
-}
-
 fn holds_slip(specified: u32, resistance: u32, service: u32, area: u32) -> bool
     requires resistance { resistance ≤ 20000 }
     requires service { service ≤ 100 }
@@ -253,29 +114,6 @@ fn holds_slip(specified: u32, resistance: u32, service: u32, area: u32) -> bool
     ensures { result ≡ holds_slip specified resistance service area }
 {
     specified as u64 <= (resistance * service) as u64 * area as u64 / 100_000
-}
-
-// I: the slip resistance takes the specified load.
-fn slips(trial: &Trial, member: &Member) -> bool
-    requires trial { TrialWithin trial.now }
-    requires member { MemberWithin member.now }
-    ensures { result ≡ slips (laid trial.now) member.now }
-{
-    let ns = lateral(
-        trial.card.slip,
-        member.theta,
-        to_axis(trial.turning, member.rho),
-    );
-    let service = service_factor(trial.conditions.service);
-    holds_slip(member.specified, ns, service, bearing(trial, member))
-}
-
-// J: the plate's extent across the grain is at least 65 percent of the depth.
-pub fn extends(trial: &Trial, member: &Member) -> bool
-    requires { MemberWithin member.now }
-    ensures { result ≡ extends (laid trial.now) member.now }
-{
-    65 * member.depth <= 100 * extent(&trial.plate, trial.turning, crosswise(member.grain))
 }
 
 // The tension in a member.
@@ -288,39 +126,192 @@ fn pull(force: Force, normal: u32) -> u32
     }
 }
 
+// A plate that is laid, and a member under it, where the numbers of both lie within their ranges.
+#[derive(Clone, Copy)]
+struct LaidOver<'a> {
+    trial: &'a Trial,
+    member: &'a Member,
+    ghost trial_within: { TrialWithin trial.now },
+    ghost member_within: { MemberWithin member.now },
+}
+
+impl LaidOver<'_> {
+    // The load's angle to the axis of the plate as it is laid.
+    fn to_axis(&self) -> u32
+        ensures value { result ≡ to_axis self.now.trial.now.turning self.now.member.now.rho }
+        ensures bound { result ≤ 90 }
+    {
+        match self.trial.turning {
+            Turning::Unturned => self.member.rho,
+            Turning::Turned => 90 - self.member.rho,
+        }
+    }
+
+    // The shear's angle to the axis of the plate as it is laid.
+    fn to_shear(&self) -> u32
+        ensures value { result ≡ to_shear self.now.trial.now.turning self.now.member.now.sigma }
+        ensures bound { result ≤ 179 }
+    {
+        match self.trial.turning {
+            Turning::Unturned => self.member.sigma,
+            Turning::Turned => (self.member.sigma + 90) % 180,
+        }
+    }
+
+    // The full side along an axis.
+    fn full(&self, axis: Axis) -> u32
+        ensures value { result ≡ full (laid self.now.trial.now) self.now.member.now axis }
+        ensures bound { result ≤ 1000 }
+    {
+        let span = along(&self.member.field, axis);
+        full_side(&span, extent(&self.trial.plate, self.trial.turning, axis))
+    }
+
+    // The side along an axis of the area that the teeth count on.
+    fn counted(&self, axis: Axis) -> u32
+        ensures value { result ≡ counted self.now.trial.now.conditions.area (laid self.now.trial.now) self.now.member.now axis }
+        ensures bound { result ≤ 1000 }
+    {
+        match self.trial.conditions.area {
+            Area::Net => {
+                let span = along(&self.member.field, axis);
+                let extent = extent(&self.trial.plate, self.trial.turning, axis);
+                net_side(&span, self.trial.card.tooth, extent)
+            }
+            Area::Gross => self.full(axis),
+        }
+    }
+
+    // The area that the teeth count on, in mm².
+    fn bearing(&self) -> u32
+        ensures value { result ≡ bearing (laid self.now.trial.now) self.now.member.now }
+        ensures bound { result ≤ 1000000 }
+    {
+        self.counted(Axis::X) * self.counted(Axis::Y)
+    }
+
+    // D: both full sides reach the bite.
+    fn bites(&self) -> bool
+        ensures { result ≡ bites (laid self.now.trial.now) self.now.member.now }
+    {
+        let least = bite(self.member.depth, self.trial.conditions.truss);
+        least <= self.full(Axis::X) && least <= self.full(Axis::Y)
+    }
+
+    // The full side across the grain.
+    fn across(&self) -> u32
+        ensures value { result ≡ full (laid self.now.trial.now) self.now.member.now (crosswise self.now.member.now.grain) }
+        ensures bound { result ≤ 1000 }
+    {
+        self.full(crosswise(self.member.grain))
+    }
+
+    // E: the bite across the grain.
+    fn crosses(&self) -> bool
+        ensures { result ≡ crosses (laid self.now.trial.now) self.now.member.now }
+    {
+        let member = self.member;
+        holds_cross(member.species, member.cross, member.depth, self.across())
+    }
+
+    // The factored resistance of the teeth under the member's load, in kPa.
+    fn tooth_resistance(&self) -> u32
+        ensures value { result ≡ tooth_resistance (laid self.now.trial.now) self.now.member.now }
+        ensures bound { result ≤ 20700 }
+    {
+        let conditions = self.trial.conditions;
+        let values = cut_all(conditions.area, self.trial.card.teeth);
+        let n = lateral(values, self.member.theta, self.to_axis());
+        factored(
+            n,
+            conditions.duration,
+            conditions.service,
+            self.trial.factor,
+        )
+    }
+
+    // F: the resistance of the teeth.
+    fn grips(&self) -> bool
+        ensures { result ≡ grips (laid self.now.trial.now) self.now.member.now }
+    {
+        let member = self.member;
+        let cap = capacity(self.tooth_resistance(), self.bearing());
+        holds_grip(member.force, member.parallel, member.normal, cap)
+    }
+
+    // G: the steel takes the normal load of a member in tension.
+    fn pulls(&self) -> bool
+        ensures { result ≡ pulls (laid self.now.trial.now) self.now.member.now self.now.member.now.force }
+    {
+        match self.member.force {
+            Force::Tension => {
+                let t = tensile(&self.trial.card, self.to_axis());
+                self.member.normal as u64 <= steel(t, self.full(self.member.interface))
+            }
+            Force::Compression => true,
+        }
+    }
+
+    // H: the steel takes the load along the interface.
+    fn shears(&self) -> bool
+        ensures { result ≡ shears (laid self.now.trial.now) self.now.member.now }
+    {
+        let v = shearing(&self.trial.card, self.to_shear());
+        self.member.parallel as u64 <= steel(v, self.full(self.member.interface))
+    }
+
+    // I: the slip resistance takes the specified load.
+    fn slips(&self) -> bool
+        ensures { result ≡ slips (laid self.now.trial.now) self.now.member.now }
+    {
+        let ns = lateral(self.trial.card.slip, self.member.theta, self.to_axis());
+        let service = service_factor(self.trial.conditions.service);
+        holds_slip(self.member.specified, ns, service, self.bearing())
+    }
+}
+
+// J: the plate's extent across the grain is at least 65 percent of the depth.
+pub fn extends(trial: &Trial, member: &Member) -> bool
+    requires { MemberWithin member.now }
+    ensures { result ≡ extends (laid trial.now) member.now }
+{
+    65 * member.depth <= 100 * extent(&trial.plate, trial.turning, crosswise(member.grain))
+}
+
 // The section of a splice through a member.
 pub fn section(trial: &Trial, member: &Member, wood: u32) -> Section
     requires trial { TrialWithin trial.now }
     requires member { MemberWithin member.now }
-    requires wood { (1 ≤ wood) × (wood ≤ 400) }
+    requires wood_low { 1 ≤ wood }
+    requires wood_high { wood ≤ 400 }
     ensures value { result ≡ section (laid trial.now) member.now wood }
     ensures bounds { SectionWithin result }
 {
-    let side = full(trial, member, crosswise(member.grain));
-    let steel = tensile(&trial.card, to_axis(trial.turning, member.rho));
-    let pull = pull(member.force, member.normal);
+    let over = LaidOver { trial, member };
     Section {
         depth: member.depth,
         wood,
-        side,
-        steel,
-        pull,
+        side: over.across(),
+        steel: tensile(&trial.card, over.to_axis()),
+        pull: pull(member.force, member.normal),
     }
 }
 
 // Whether the member meets the clause; the clauses of the joint as a whole ask nothing of one member.
+#[tactic(auto, unfolding(crate::specs::Clauses::meets))]
 pub fn meets(clause: Clause, trial: &Trial, member: &Member) -> bool
     requires trial { TrialWithin trial.now }
     requires member { MemberWithin member.now }
     ensures { result ≡ meets clause (laid trial.now) member.now }
 {
+    let over = LaidOver { trial, member };
     match clause {
-        Clause::Bite => bites(trial, member),
-        Clause::CrossGrain => crosses(trial, member),
-        Clause::Grip => grips(trial, member),
-        Clause::Tension => pulls(trial, member),
-        Clause::Shear => shears(trial, member),
-        Clause::Slip => slips(trial, member),
+        Clause::Bite => over.bites(),
+        Clause::CrossGrain => over.crosses(),
+        Clause::Grip => over.grips(),
+        Clause::Tension => over.pulls(),
+        Clause::Shear => over.shears(),
+        Clause::Slip => over.slips(),
         _ => true,
     }
 }

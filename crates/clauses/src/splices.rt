@@ -15,24 +15,6 @@ pub struct Section {
     pub pull: u32,
 }
 
-fn excess(s: &Section) -> i64
-    requires { SectionWithin s.now }
-    ensures value { result ≡ excess s.now }
-    ensures bounds { (negsuc 399999999 ≤ℤ result) × (result ≤ℤ pos 20000000) }
-{
-    let push = 38 * s.depth * s.wood + 74 * s.pull;
-    let hold = 20 * s.side * s.steel;
-    push as i64 - hold as i64
-}
-
-fn stiffness(s: &Section) -> u32
-    requires { SectionWithin s.now }
-    ensures value { result ≡ stiffness s.now }
-    ensures bounds { (0 < result) × (result ≤ 1000000) }
-{
-    40 * s.steel + 2 * 38 * s.wood
-}
-
 // A quotient rounded towards minus infinity.
 fn floored(z: i64, g: u32) -> i64
     requires { 0 < g }
@@ -42,24 +24,9 @@ fn floored(z: i64, g: u32) -> i64
     z.div_euclid(g as i64)
 }
 
-// The neutral axis in hundredths of a millimetre from the chord's centre line.
-pub(crate) fn axis(s: &Section) -> i64
-    requires { SectionWithin s.now }
-    ensures { result ≡ axis s.now }
-{
-    floored(100 * excess(s), stiffness(s))
-}
-
-fn inside(side: u32, y: i64) -> bool
-    requires { side ≤ 1000 }
-    ensures { result ≡ inside side y }
-{
-    let reach = (50 * side) as i64;
-    -reach <= y && y <= reach
-}
-
 fn square(z: i64) -> u64
-    requires { (negsuc 99999 ≤ℤ z) × (z ≤ℤ pos 100000) }
+    requires low { negsuc 99999 ≤ℤ z }
+    requires high { z ≤ℤ pos 100000 }
     ensures value { result ≡ square z }
     ensures bound { result ≤ 10000000000 }
 {
@@ -67,48 +34,102 @@ fn square(z: i64) -> u64
     m * m
 }
 
-fn steel_part(s: &Section, y: i64) -> u64
-    requires section { SectionWithin s.now }
-    requires low { neg_ℤ (pos (50 * s.now.side)) ≤ℤ y }
-    requires high { y ≤ℤ pos (50 * s.now.side) }
-    ensures value { result ≡ steel_part s.now y }
-    ensures bound { result ≤ 54000000000000000 }
-{
-    270 * s.steel as u64 * square((50 * s.side) as i64 + y)
+// A section whose numbers lie within their ranges. `Section` does not say so itself, since the
+// definitions have the section of any numbers.
+#[derive(Clone, Copy)]
+pub(crate) struct RangedSection {
+    pub(crate) section: Section,
+    ghost within: { SectionWithin section },
 }
 
-fn wood_part(s: &Section, y: i64) -> u64
-    requires section { SectionWithin s.now }
-    requires low { neg_ℤ (pos (50 * s.now.side)) ≤ℤ y }
-    requires high { y ≤ℤ pos (50 * s.now.side) }
-    ensures value { result ≡ wood_part s.now y }
-    ensures bound { result ≤ 2736000000000000 }
-{
-    (18 * 38 * s.wood) as u64 * square((50 * s.depth) as i64 - y)
+impl RangedSection {
+    #[tactic(auto, unfolding(crate::specs::Splice::excess))]
+    fn excess(&self) -> i64
+        ensures value { result ≡ excess self.now.section }
+        ensures low { negsuc 399999999 ≤ℤ result }
+        ensures high { result ≤ℤ pos 20000000 }
+    {
+        let s = self.section;
+        let push = 38 * s.depth * s.wood + 74 * s.pull;
+        let hold = 20 * s.side * s.steel;
+        push as i64 - hold as i64
+    }
+
+    #[tactic(auto, unfolding(crate::specs::Splice::stiffness))]
+    fn stiffness(&self) -> u32
+        ensures value { result ≡ stiffness self.now.section }
+        ensures low { 0 < result }
+        ensures high { result ≤ 1000000 }
+    {
+        let s = self.section;
+        40 * s.steel + 2 * 38 * s.wood
+    }
+
+    // The neutral axis in hundredths of a millimetre from the chord's centre line.
+    #[tactic(auto, unfolding(crate::specs::Splice::axis))]
+    pub(crate) fn axis(&self) -> i64
+        ensures { result ≡ axis self.now.section }
+    {
+        floored(100 * self.excess(), self.stiffness())
+    }
+
+    // The axis lies under the plate.
+    fn inside(&self, y: i64) -> bool
+        ensures { result ≡ inside self.now.section.side y }
+    {
+        let reach = (50 * self.section.side) as i64;
+        (-reach..=reach).contains(&y)
+    }
 }
 
-fn pull_part(s: &Section, y: i64) -> i64
-    requires section { SectionWithin s.now }
-    requires low { neg_ℤ (pos (50 * s.now.side)) ≤ℤ y }
-    requires high { y ≤ℤ pos (50 * s.now.side) }
-    ensures value { result ≡ pull_part s.now y }
-    ensures bounds { (negsuc 999999999999999 ≤ℤ result) × (result ≤ℤ pos 1000000000000000) }
-{
-    (100_000 * s.pull as u64) as i64 * y
+// Such a section with its neutral axis, which lies under the plate.
+#[derive(Clone, Copy)]
+struct BentSection {
+    section: Section,
+    y: i64,
+    ghost within: { SectionWithin section },
+    ghost low: { neg_ℤ (pos (50 * section.side)) ≤ℤ y },
+    ghost high: { y ≤ℤ pos (50 * section.side) },
 }
 
-fn resists(moment: u32, s: &Section, y: i64) -> bool
-    requires moment { moment ≤ 20000000 }
-    requires section { SectionWithin s.now }
-    requires low { neg_ℤ (pos (50 * s.now.side)) ≤ℤ y }
-    requires high { y ≤ℤ pos (50 * s.now.side) }
-    ensures { result ≡ resists moment s.now y }
-{
-    let held = steel_part(s, y) + wood_part(s, y);
-    10_000_000 * moment as i64 <= held as i64 - pull_part(s, y)
+impl BentSection {
+    #[tactic(auto, unfolding(crate::specs::Splice::steel_part))]
+    fn steel_part(&self) -> u64
+        ensures value { result ≡ steel_part self.now.section self.now.y }
+        ensures bound { result ≤ 54000000000000000 }
+    {
+        let s = self.section;
+        270 * s.steel as u64 * square((50 * s.side) as i64 + self.y)
+    }
+
+    #[tactic(auto, unfolding(crate::specs::Splice::wood_part))]
+    fn wood_part(&self) -> u64
+        ensures value { result ≡ wood_part self.now.section self.now.y }
+        ensures bound { result ≤ 2736000000000000 }
+    {
+        let s = self.section;
+        (18 * 38 * s.wood) as u64 * square((50 * s.depth) as i64 - self.y)
+    }
+
+    fn pull_part(&self) -> i64
+        ensures value { result ≡ pull_part self.now.section self.now.y }
+        ensures low { negsuc 999999999999999 ≤ℤ result }
+        ensures high { result ≤ℤ pos 1000000000000000 }
+    {
+        (100_000 * self.section.pull as u64) as i64 * self.y
+    }
+
+    fn resists(&self, moment: u32) -> bool
+        requires { moment ≤ 20000000 }
+        ensures { result ≡ resists moment self.now.section self.now.y }
+    {
+        let held = self.steel_part() + self.wood_part();
+        10_000_000 * moment as i64 <= held as i64 - self.pull_part()
+    }
 }
 
 // K: there is no moment, or the axis lies under the plate and the section resists the moment.
+#[tactic(auto, unfolding(crate::specs::Splice::holds_moment))]
 pub fn holds_moment(moment: u32, s: &Section) -> bool
     requires moment { moment ≤ 20000000 }
     requires section { SectionWithin s.now }
@@ -117,6 +138,8 @@ pub fn holds_moment(moment: u32, s: &Section) -> bool
     if moment == 0 {
         return true;
     }
-    let y = axis(s);
-    inside(s.side, y) && resists(moment, s, y)
+    let section = *s;
+    let ranged = RangedSection { section };
+    let y = ranged.axis();
+    ranged.inside(y) && BentSection { section, y }.resists(moment)
 }

@@ -5,7 +5,7 @@ ghost use Rattle.rules.specs.Heel.{by_table, by_formula};
 ghost use Rattle.clauses.specs.Worked.{WorkedByHand};
 
 use super::asked::{capacity, holds_cross, holds_grip};
-use super::splices::{Section, axis, holds_moment};
+use super::splices::{RangedSection, Section, holds_moment};
 use rules::{
     Duration, FactorRule, Force, Lateral, Service, Species, at_grain, factored, heel_factor,
     lateral,
@@ -46,6 +46,7 @@ pub struct WorkedSplice {
 
 // p, q = 2000, 1500 and p', q' = 1800, 1400 at 30 degrees to the grain and 45 to the plate axis,
 // with every factor 100, over 76 × 50 mm.
+#[tactic(auto, using(crate::proofs::ByHand::by_hand))]
 pub fn worked_teeth() -> WorkedTeeth
     ensures claim { WorkedByHand }
     ensures values { result ≡ record { along = 1846; across = 1680; n = 1763; resistance = 1586; capacity = 6026 } }
@@ -99,7 +100,8 @@ pub fn worked_limits() -> WorkedLimits
 
 fn both_ways(rise: u32, run: u32) -> (u32, u32)
     requires rise { rise ≤ 10000 }
-    requires run { (1 ≤ run) × (run ≤ 10000) }
+    requires run_low { 1 ≤ run }
+    requires run_high { run ≤ 10000 }
     ensures { result ≡ (by_table rise run, by_formula rise run) }
 {
     (
@@ -124,6 +126,7 @@ pub fn worked_heels() -> WorkedHeels
 
 // Steel of 200 N/mm over 76 mm, depth 89, wood of 11.5 MPa and 5,000 N of tension, under moments of
 // 117,118 and 117,119 N·mm.
+#[tactic(auto, using(crate::proofs::ByHand::by_hand))]
 pub fn worked_splice() -> WorkedSplice
     ensures { result ≡ record { axis = pos 2717; moment = (true, false) } }
 {
@@ -134,7 +137,7 @@ pub fn worked_splice() -> WorkedSplice
         steel: 200,
         pull: 5000,
     };
-    let axis = axis(&section);
+    let axis = RangedSection { section }.axis();
     let moment = (
         holds_moment(117_118, &section),
         holds_moment(117_119, &section),

@@ -1,5 +1,6 @@
 -- Bounds of products, sums of products and quotients.
-use Rattle.std.proofs.Common.{◌≡◌, ℕ, ◌+◌, ◌*◌, ◌/◌, ◌<◌, ◌≤◌, sym, ap, ◌∙◌, subst, mul-le-mul_right, mul_assoc, mul_comm, mul-add, mul_left_comm, arith}
+use Rattle.std.proofs.Common.{◌≡◌, ℕ, ◌+◌, ◌*◌, ◌/◌, ◌≤◌, sym, ap, ◌∙◌, subst, mul-le-mul_right, mul_assoc, mul_comm, mul-add, mul_left_comm, arith}
+use Rattle.std.proofs.lemmas.Nat.{mul-le}
 use native.Mathlib.Nat.{div-le_of_le-mul}
 
 -- a mean of two values up to m, weighted by x and y, is up to m
@@ -20,10 +21,7 @@ inverse_mean m p q x y t hp hq e =
     left : p * q * x ≡ q * (p * x)
     left = mul_assoc p q x ∙ mul_left_comm p q x
 
--- what is multiplied by one or more does not shrink
-pub grown : (p x : ℕ) → 1 ≤ p → x ≤ p * x
-grown p x h = omega (arith, mul-le-mul_right x h)
-
--- weights that sum to one or more, of values of one or more
-pub some_weight : (p q x y t : ℕ) → 1 ≤ p → 1 ≤ q → x + y ≡ t → 1 ≤ t → 0 < p * x + q * y
-some_weight p q x y t hp hq e h = omega (arith, grown p x hp, grown q y hq)
+-- a product of a value, 90 and three factors is bounded by that of their greatest values
+pub factors : (n d s j : ℕ) → n ≤ 20000 → d ≤ 115 → s ≤ 100 → j ≤ 100 → n * 90 * d * s * j ≤ 20000 * 90 * 115 * 100 * 100
+factors n d s j hn hd hs hj =
+    mul-le (n * 90 * d * s) j (20000 * 90 * 115 * 100) 100 (mul-le (n * 90 * d) s (20000 * 90 * 115) 100 (mul-le (n * 90) d (20000 * 90) 115 (omega arith) hd) hs) hj

@@ -1,5 +1,5 @@
 -- The laws of the table of squared sines, each one test that antt computes over all angles.
-use Rattle.std.proofs.Common.{◌≡◌, ℕ, zero, suc, ◌+◌, ◌-◌, ◌*◌, ◌^◌, ◌<◌, ◌≤◌, Bool, true, ◌&&◌, eqb, ltb, leb, Decides, refl, arith}
+use Rattle.std.proofs.Common.{◌≡◌, ℕ, zero, suc, ◌+◌, ◌-◌, ◌*◌, ◌^◌, ◌<◌, ◌≤◌, List, slice_index, Bool, true, ◌&&◌, eqb, ltb, leb, Decides, refl, arith}
 use Rattle.std.proofs.lemmas.Bool.{le-leb, leb-true}
 use Rattle.std.proofs.lemmas.Bool.Decides.{Decides-below_and, Decides-eqb, Decides-ltb, Decides-and}
 use Rattle.rules.specs.Sines.{squares, S, cosines, Nearest, SquaredSines}
@@ -24,6 +24,6 @@ laws = record {
   quarter = leb-true _ _ refl;
 }
 
-pub bound : (a : ℕ) → a ≤ 90 → S a ≤ 10000
-unfolding S squares
-bound a h = at (λ a. leb (S a) 10000) (λ a. S a ≤ 10000) (λ a. decides_leb _ _) 91 refl a (omega arith)
+-- no entry of a list of 91 that passes this test is above m
+pub entry_bound : (m : ℕ) (xs : List ℕ) → below (λ k. leb (slice_index xs k) m) 91 ≡ true → (k : ℕ) → k ≤ 90 → slice_index xs k ≤ m
+entry_bound m xs t k h = at (λ k. leb (slice_index xs k) m) (λ k. slice_index xs k ≤ m) (λ k. decides_leb _ _) 91 t k (omega arith)

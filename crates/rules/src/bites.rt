@@ -1,6 +1,6 @@
 // The least bite into chords and webs, in mm, by the member's depth and the truss length.
 ghost use Rattle.std.specs.Prelude.{◌≡◌};
-ghost use Rattle.rules.specs.Bites.{by_truss, by_depth, bite};
+ghost use Rattle.rules.specs.Bites.{entries, by_truss, by_depth, bite};
 
 // A row's entries for truss lengths up to 12,500, 18,300, 24,400 and beyond.
 #[derive(Clone, Copy)]
@@ -11,71 +11,42 @@ pub struct BiteRow {
     pub last: u32,
 }
 
-const TO_114: BiteRow = BiteRow {
-    first: 38,
-    second: 45,
-    third: 51,
-    last: 57,
-};
-
-const TO_140: BiteRow = BiteRow {
-    first: 38,
-    second: 51,
-    third: 57,
-    last: 64,
-};
-
-const TO_184: BiteRow = BiteRow {
-    first: 51,
-    second: 57,
-    third: 64,
-    last: 76,
-};
-
-const TO_235: BiteRow = BiteRow {
-    first: 64,
-    second: 70,
-    third: 76,
-    last: 83,
-};
-
-const TO_286: BiteRow = BiteRow {
-    first: 76,
-    second: 76,
-    third: 83,
-    last: 89,
-};
-
 fn by_truss(truss: u32, row: BiteRow) -> u32
     ensures { result ≡ by_truss truss row }
 {
-    if truss <= 12_500 {
-        row.first
-    } else if truss <= 18_300 {
-        row.second
-    } else if truss <= 24_400 {
-        row.third
-    } else {
-        row.last
+    match truss {
+        ..=12_500 => row.first,
+        ..=18_300 => row.second,
+        ..=24_400 => row.third,
+        _ => row.last,
+    }
+}
+
+// A row of these entries.
+fn entries(first: u32, second: u32, third: u32, last: u32) -> BiteRow
+    ensures { result ≡ entries first second third last }
+{
+    BiteRow {
+        first,
+        second,
+        third,
+        last,
     }
 }
 
 fn by_depth(depth: u32) -> BiteRow
     ensures { result ≡ by_depth depth }
 {
-    if depth <= 114 {
-        TO_114
-    } else if depth <= 140 {
-        TO_140
-    } else if depth <= 184 {
-        TO_184
-    } else if depth <= 235 {
-        TO_235
-    } else {
-        TO_286
+    match depth {
+        ..=114 => entries(38, 45, 51, 57),
+        ..=140 => entries(38, 51, 57, 64),
+        ..=184 => entries(51, 57, 64, 76),
+        ..=235 => entries(64, 70, 76, 83),
+        _ => entries(76, 76, 83, 89),
     }
 }
 
+#[tactic(auto, unfolding(crate::specs::Bites::bite))]
 pub fn bite(depth: u32, truss: u32) -> u32
     ensures { result ≡ bite depth truss }
 {

@@ -1,9 +1,9 @@
 // The moment factor of a heel joint, in hundredths, from its slope rise/run.
-ghost use Rattle.std.specs.Prelude.{◌≡◌, ◌≤◌};
-ghost use Rattle.rules.specs.Heel.{by_table, rounded_up, Reaches, by_formula, ruled, factor_by, heel_factor};
+ghost use Rattle.std.specs.Prelude.{◌≡◌, ◌<◌, ◌≤◌};
+ghost use Rattle.rules.specs.Heel.{by_table, rounded_up, Reaches, by_formula, heel_factor};
 
 // How a heel sheet has its factor found.
-#[derive(Clone, Copy)]
+#[derive(Clone, Copy, PartialEq, Eq, Debug)]
 pub enum FactorRule {
     Table,
     Formula,
@@ -14,7 +14,8 @@ const DEFAULT_RULE: FactorRule = FactorRule::Table;
 
 // By the slope's place in a table; slopes are compared by cross-multiplication.
 fn by_table(rise: u32, run: u32) -> u32
-    requires { (rise ≤ 10000) × (run ≤ 10000) }
+    requires rise { rise ≤ 10000 }
+    requires run { run ≤ 10000 }
     ensures value { result ≡ by_table rise run }
     ensures bound { result ≤ 100 }
 {
@@ -33,43 +34,33 @@ fn by_table(rise: u32, run: u32) -> u32
 
 // A quotient rounded up.
 fn rounded_up(a: u32, b: u32) -> u32
-    requires a { a ≤ 600000 }
-    requires b { (1 ≤ b) × (b ≤ 10000) }
+    requires { 0 < b }
     ensures value { result ≡ rounded_up a b }
     ensures means { Reaches a b result }
 {
-    (a + b - 1) / b
+    a.div_ceil(b)
 }
 
 // By 95 − 60 × rise/run, the quotient rounded up, held within 65 to 85.
 fn by_formula(rise: u32, run: u32) -> u32
     requires rise { rise ≤ 10000 }
-    requires run { (1 ≤ run) × (run ≤ 10000) }
+    requires run { 0 < run }
     ensures value { result ≡ by_formula rise run }
     ensures bound { result ≤ 100 }
 {
     95u32
         .saturating_sub(rounded_up(60 * rise, run))
-        .min(85)
-        .max(65)
-}
-
-fn ruled(choice: Option<FactorRule>) -> FactorRule
-    ensures { result ≡ ruled choice }
-{
-    match choice {
-        Some(rule) => rule,
-        None => DEFAULT_RULE,
-    }
+        .clamp(65, 85)
 }
 
 pub fn heel_factor(choice: Option<FactorRule>, rise: u32, run: u32) -> u32
     requires rise { rise ≤ 10000 }
-    requires run { (1 ≤ run) × (run ≤ 10000) }
+    requires run_low { 1 ≤ run }
+    requires run_high { run ≤ 10000 }
     ensures value { result ≡ heel_factor choice rise run }
     ensures bound { result ≤ 100 }
 {
-    match ruled(choice) {
+    match choice.unwrap_or(DEFAULT_RULE) {
         FactorRule::Table => by_table(rise, run),
         FactorRule::Formula => by_formula(rise, run),
     }

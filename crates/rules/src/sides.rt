@@ -21,50 +21,21 @@ pub fn extent(plate: &Plate, turning: Turning, axis: Axis) -> u32
     }
 }
 
-// Twice the upper end of what is common to the field and the plate.
-fn high_end(high: i32, extent: u32) -> i32
-    requires low { negsuc 1999 ≤ℤ high }
-    requires high { high ≤ℤ pos 2000 }
-    requires extent { extent ≤ 1000 }
-    ensures value { result ≡ int_min (pos 2 *ℤ high) (pos extent) }
-    ensures bound { (result ≤ℤ pos extent) × (negsuc 3999 ≤ℤ result) }
-{
-    let end = 2 * high;
-    let e = extent as i32;
-    if e < end { e } else { end }
-}
-
-// Twice the lower end of it.
-fn low_end(low: i32, extent: u32) -> i32
-    requires low { negsuc 1999 ≤ℤ low }
-    requires high { low ≤ℤ pos 2000 }
-    requires extent { extent ≤ 1000 }
-    ensures value { result ≡ int_max (pos 2 *ℤ low) (neg_ℤ (pos extent)) }
-    ensures bound { (neg_ℤ (pos extent) ≤ℤ result) × (result ≤ℤ pos 4000) }
-{
-    let end = 2 * low;
-    let e = -(extent as i32);
-    if e < end { end } else { e }
-}
-
-fn halved(twice: i32) -> u32
-    ensures value { result ≡ halved twice }
-    ensures bound { twice ≤ℤ pos 2000 → result ≤ 1000 }
-{
-    if twice < 0 { 0 } else { twice as u32 / 2 }
-}
-
-// The contact side of a field from `low` to `high` and a plate centred on the mark.
+// The contact side of a field from `low` to `high` and a plate centred on the mark. Both are
+// doubled, so that half the plate's extent is a whole number.
 fn contact(low: i32, high: i32, extent: u32) -> u32
-    requires low { (negsuc 1999 ≤ℤ low) × (low ≤ℤ pos 2000) }
-    requires high { (negsuc 1999 ≤ℤ high) × (high ≤ℤ pos 2000) }
+    requires low_low { negsuc 1999 ≤ℤ low }
+    requires low_high { low ≤ℤ pos 2000 }
+    requires high_low { negsuc 1999 ≤ℤ high }
+    requires high_high { high ≤ℤ pos 2000 }
     requires extent { extent ≤ 1000 }
     ensures value { result ≡ contact low high extent }
     ensures bound { result ≤ 1000 }
 {
-    let top = high_end(high, extent);
-    let bottom = low_end(low, extent);
-    halved(top - bottom)
+    let reach = extent as i32;
+    let top = (2 * high).min(reach);
+    let bottom = (2 * low).max(-reach);
+    (top - bottom).max(0) as u32 / 2
 }
 
 // How far a net field is drawn in at a side of that mark; fractions of a tooth are rounded up.
@@ -75,13 +46,14 @@ fn setback(mark: Mark, tooth: u32) -> u32
 {
     match mark {
         Mark::Plain => 0,
-        Mark::Edge => ((tooth + 3) / 4).max(6),
-        Mark::End => ((tooth + 1) / 2).max(12),
+        Mark::Edge => tooth.div_ceil(4).max(6),
+        Mark::End => tooth.div_ceil(2).max(12),
     }
 }
 
 pub fn along(field: &Field, axis: Axis) -> Span
-    requires { (SpanWithin field.now.x) × (SpanWithin field.now.y) }
+    requires x { SpanWithin field.now.x }
+    requires y { SpanWithin field.now.y }
     ensures value { result ≡ along field.now axis }
     ensures bounds { SpanWithin result }
 {

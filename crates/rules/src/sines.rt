@@ -12,6 +12,7 @@ const SQUARES: [u32; 91] = [
 ];
 
 // The whole table, from 0 to 90 degrees, and the laws that it keeps.
+#[tactic(auto, using(crate::proofs::Table::laws), unfolding(crate::specs::Sines::squares))]
 pub fn squares() -> [u32; 91]
     ensures value { result ≡ squares }
     ensures laws { SquaredSines }
@@ -19,6 +20,7 @@ pub fn squares() -> [u32; 91]
     SQUARES
 }
 
+#[tactic(auto, unfolding(crate::specs::Sines::S, crate::specs::Sines::squares))]
 pub fn square_sine(angle: u32) -> u32
     requires { angle ≤ 90 }
     ensures value { result ≡ S angle }

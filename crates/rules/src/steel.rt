@@ -18,9 +18,7 @@ pub fn tensile(card: &Card, rho: u32) -> u32
 
 // The shear value at 30 × `step` degrees; 180 has the value of 0.
 fn shear_at(card: &Card, step: u32) -> u32
-    requires card { CardWithin card.now }
-    ensures value { result ≡ shear_at card.now step }
-    ensures bound { result ≤ 2000 }
+    ensures { result ≡ shear_at card.now step }
 {
     card.shear[step as usize % 6]
 }

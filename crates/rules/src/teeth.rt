@@ -7,9 +7,12 @@ use super::sines::square_sine;
 use super::terms::{Area, Duration, Lateral, Service};
 
 // A value for load at `theta` to the grain, from `p` along it and `q` across it.
+#[tactic(auto, using(crate::proofs::Bounds::inverse_mean), unfolding(crate::specs::Teeth::at_grain))]
 pub fn at_grain(p: u32, q: u32, theta: u32) -> u32
-    requires p { (1 ≤ p) × (p ≤ 20000) }
-    requires q { (1 ≤ q) × (q ≤ 20000) }
+    requires p_low { 1 ≤ p }
+    requires p_high { p ≤ 20000 }
+    requires q_low { 1 ≤ q }
+    requires q_high { q ≤ 20000 }
     requires theta { theta ≤ 90 }
     ensures value { result ≡ at_grain p q theta }
     ensures bound { result ≤ 20000 }
@@ -22,11 +25,13 @@ pub fn at_grain(p: u32, q: u32, theta: u32) -> u32
 }
 
 // The value `part` of `whole` degrees on the way from one value to another.
+#[tactic(auto, unfolding(crate::specs::Teeth::between))]
 pub fn between(one: u32, other: u32, part: u32, whole: u32) -> u32
     requires one { one ≤ 20000 }
     requires other { other ≤ 20000 }
     requires part { part ≤ whole }
-    requires whole { (1 ≤ whole) × (whole ≤ 90) }
+    requires whole_low { 1 ≤ whole }
+    requires whole_high { whole ≤ 90 }
     ensures value { result ≡ between one other part whole }
     ensures bound { result ≤ 20000 }
 {
@@ -48,9 +53,11 @@ pub fn lateral(v: Lateral, theta: u32, rho: u32) -> u32
 
 // On a gross sheet a tooth value is first cut to 80 percent.
 pub fn cut(area: Area, v: u32) -> u32
-    requires { (10 ≤ v) × (v ≤ 20000) }
+    requires low { 10 ≤ v }
+    requires high { v ≤ 20000 }
     ensures value { result ≡ cut area v }
-    ensures bounds { (1 ≤ result) × (result ≤ 20000) }
+    ensures low { 1 ≤ result }
+    ensures high { result ≤ 20000 }
 {
     match area {
         Area::Net => v,
@@ -93,6 +100,7 @@ pub fn service_factor(service: Service) -> u32
 }
 
 // The factored resistance of the teeth in kPa.
+#[tactic(auto, using(crate::proofs::Bounds::factors), unfolding(crate::specs::Teeth::factored))]
 pub fn factored(n: u32, duration: Duration, service: Service, factor: u32) -> u32
     requires n { n ≤ 20000 }
     requires factor { factor ≤ 100 }

@@ -1,5 +1,7 @@
 // What a designer writes down: cards, members and the conditions of a sheet. The numbers are as
-// the caller wrote them; whether they lie in their ranges is found before a clause is read.
+// the caller wrote them; whether they lie in their ranges is found before a clause is read. So no
+// type here carries its ranges: the functions that compute with the numbers ask for them.
+
 // Four tooth or slip values in kPa for a pair of plates. In `p` the load runs along the grain,
 // in `q` across it; `p` and `q` are for load along the plate axis, `pt` and `qt` transverse to it.
 #[derive(Clone, Copy)]
@@ -24,26 +26,26 @@ pub struct Card {
     pub tooth: u32,
 }
 
-#[derive(Clone, Copy)]
+#[derive(Clone, Copy, PartialEq, Eq, Debug)]
 pub enum Force {
     Tension,
     Compression,
 }
 
-#[derive(Clone, Copy)]
+#[derive(Clone, Copy, PartialEq, Eq, Debug)]
 pub enum Species {
     SprucePineFir,
     DouglasFirLarch,
 }
 
-#[derive(Clone, Copy)]
+#[derive(Clone, Copy, PartialEq, Eq, Debug)]
 pub enum Axis {
     X,
     Y,
 }
 
 // How a side of a field is marked: inside the wood, at an edge of it, or at its end.
-#[derive(Clone, Copy)]
+#[derive(Clone, Copy, PartialEq, Eq, Debug)]
 pub enum Mark {
     Plain,
     Edge,
@@ -87,28 +89,28 @@ pub struct Member {
     pub field: Field,
 }
 
-#[derive(Clone, Copy)]
+#[derive(Clone, Copy, PartialEq, Eq, Debug)]
 pub enum Duration {
     Permanent,
     Standard,
     Short,
 }
 
-#[derive(Clone, Copy)]
+#[derive(Clone, Copy, PartialEq, Eq, Debug)]
 pub enum Service {
     SeasonedDry,
     UnseasonedDry,
     Wet,
 }
 
-#[derive(Clone, Copy)]
+#[derive(Clone, Copy, PartialEq, Eq, Debug)]
 pub enum Area {
     Net,
     Gross,
 }
 
 // The turnings that a sheet allows.
-#[derive(Clone, Copy)]
+#[derive(Clone, Copy, PartialEq, Eq, Debug)]
 pub enum Turnings {
     UnturnedOnly,
     TurnedOnly,
