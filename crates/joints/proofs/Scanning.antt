@@ -1,27 +1,24 @@
--- The scan for the first item that fails: its steps, and what its result means.
-use Rattle.std.proofs.Common.{◌≡◌, ℕ, ◌+◌, ◌<◌, ◌≤◌, Bool, true, false, cond, List, [], ◌∷◌, length, get_or, drop, Some, None, Option, sym, refl, ap, ◌∙◌, add-zero, add_assoc, arith}
-use Rattle.std.specs.List.{AllByRecursion}
-use Rattle.std.proofs.lemmas.List.{at_drop_more, at_drop_all}
+-- The scan for the first item that fails: how `position` finds it, and what its result means.
+use Rattle.std.proofs.Common.{◌≡◌, ℕ, zero, suc, ◌+◌, ◌<◌, Bool, true, false, cond, List, [], ◌∷◌, length, Some, None, Option, sym, refl, ap, ◌∙◌, add-zero, arith}
+use Rattle.std.specs.List.{AllByRecursion, AllWithin, HoldsAt}
+use Rattle.std.specs.Option.{MatchOption, option_map}
 use Rattle.std.proofs.lemmas.Bool.{cond-true, cond-false}
 use Rattle.joints.specs.Scan.{first_failing, FirstFailing}
 
-module _ {T : Type 0} (p : T → Bool) (start : ℕ) (xs : List T) where
-  ahead : (i : ℕ) (x : T) → i < length xs → x ≡ get_or xs i x → first_failing p (start + i) (drop i xs) ≡ cond (p x) (first_failing p (start + i + 1) (drop (i + 1) xs)) (Some (start + i))
-  ahead i x h e = at_drop_more (first_failing p (start + i)) xs i x h ∙ ap (λ y. cond (p y) (first_failing p (start + i + 1) (drop (i + 1) xs)) (Some (start + i))) (sym e)
-
-  pub passes_on : (i : ℕ) (x : T) → i < length xs → x ≡ get_or xs i x → p x ≡ true → first_failing p (start + i) (drop i xs) ≡ first_failing p (start + (i + 1)) (drop (i + 1) xs)
-  passes_on i x h e t = ahead i x h e ∙ cond-true (p x) _ _ t ∙ ap (λ n. first_failing p n (drop (i + 1) xs)) (add_assoc start i 1)
-
-  pub fails_here : (i : ℕ) (x : T) → i < length xs → x ≡ get_or xs i x → p x ≡ false → first_failing p (start + i) (drop i xs) ≡ Some (start + i)
-  fails_here i x h e t = ahead i x h e ∙ cond-false (p x) _ _ t
-
-  pub none_left : (i : ℕ) → length xs ≤ i → first_failing p (start + i) (drop i xs) ≡ None
-  none_left i h = at_drop_all (first_failing p (start + i)) xs i h
-
--- what holds of everything holds of each item
-pub all_of : {T : Type 0} (P : T → Type 0) → ((x : T) → P x) → (xs : List T) → AllByRecursion P xs
-all_of P h [] = tt
-all_of P h (x ∷ xs) = (h x, all_of P h xs)
+-- the first item that fails, where `position` looked for it from 0 on
+pub first_from : {T : Type 0} (p : T → Bool) (start : ℕ) (xs : List T) (r : Option ℕ)
+    → MatchOption r (AllWithin (λ x. p x ≡ true) xs 0 (length xs)) (λ i. (i < length xs) × HoldsAt (λ x. p x ≡ false) xs i × AllWithin (λ x. p x ≡ true) xs 0 i)
+    → option_map (λ i. start + i) r ≡ first_failing p start xs
+first_from p start [] None h = refl
+first_from p start [] (Some i) h = absurd (omega (arith, h.0))
+first_from p start (x ∷ xs) None h =
+    first_from p (start + 1) xs None (λ k d l m. h (suc k) d (omega arith) (omega arith)) ∙ sym (cond-true (p x) _ _ (h 0 x (omega arith) (omega arith)))
+first_from p start (x ∷ xs) (Some zero) h = ap Some (add-zero start) ∙ sym (cond-false (p x) _ _ (h.1 x))
+first_from p start (x ∷ xs) (Some (suc i)) h =
+    let inside : i < length xs = omega (arith, h.0) in
+    let here : p x ≡ true = h.2 0 x (omega arith) (omega arith) in
+    let later : option_map (λ i. (start + 1) + i) (Some i) ≡ first_failing p (start + 1) xs = first_from p (start + 1) xs (Some i) (inside, λ d. h.1 d, λ k d l m. h.2 (suc k) d (omega arith) (omega arith)) in
+    ap Some (omega arith) ∙ later ∙ sym (cond-true (p x) _ _ here)
 
 -- what the result means
 abbrev pub Means : {T : Type 0} → (T → Bool) → ℕ → List T → Option ℕ → Type 0

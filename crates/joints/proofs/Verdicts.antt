@@ -1,6 +1,5 @@
 -- The steps of trying a plate, and what its verdict means.
-use Rattle.std.proofs.Common.{◌≡◌, ℕ, zero, suc, ◌+◌, ◌<◌, ◌≤◌, Bool, true, false, cond, List, [], ◌∷◌, ◌++◌, length, get_or, drop, Some, None, Option, refl, ap, ◌∙◌, le_of_suc-le-suc, not-suc-le-zero, arith}
-use Rattle.rules.specs.declared.terms.Card.{Card}
+use Rattle.std.proofs.Common.{◌≡◌, ℕ, ◌+◌, ◌<◌, ◌≤◌, Bool, true, false, cond, List, [], ◌∷◌, ◌++◌, length, get_or, drop, Some, None, Option, refl, ap, ◌∙◌, arith}
 use Rattle.plates.specs.Verdicts.{passes}
 use Rattle.plates.specs.declared.verdicts.Clause.{Clause}
 use Rattle.plates.specs.declared.verdicts.Verdict.{Verdict}
@@ -11,17 +10,7 @@ use Rattle.std.proofs.lemmas.List.{at_drop_more, at_drop_all}
 use Rattle.joints.specs.Scan.{first_failing}
 use Rattle.joints.specs.Verdict.{Check, whole, each, Met, Missed, MissesFirst, Judges, missed_at, first_missed}
 use Rattle.joints.proofs.Scanning.{Means, means}
-use Rattle.joints.specs.Checks.{card_of, each_of}
-
-pub card_there : (cs : List Card) (k : ℕ) (d : Card) → k < length cs → card_of cs k ≡ Some (get_or cs k d)
-card_there [] k d h = absurd (not-suc-le-zero h)
-card_there (c ∷ cs) zero d h = refl
-card_there (c ∷ cs) (suc k) d h = card_there cs k d (le_of_suc-le-suc h)
-
-pub card_beyond : (cs : List Card) (k : ℕ) → length cs ≤ k → card_of cs k ≡ None
-card_beyond [] k h = refl
-card_beyond (c ∷ cs) zero h = absurd (not-suc-le-zero h)
-card_beyond (c ∷ cs) (suc k) h = card_beyond cs k (le_of_suc-le-suc h)
+use Rattle.joints.specs.Checks.{each_of}
 
 -- the verdict of member clauses over the members
 abbrev pub over : Laid → List Member → List Clause → Verdict

@@ -1,10 +1,7 @@
 // The grounds on which a joint is turned away, in their order.
-ghost use Rattle.std.specs.Prelude.{◌≡◌, ◌+◌, ◌^◌, ◌<◌, ◌≤◌, true, length, if◌then◌else◌, Ok, Err};
-ghost use Rattle.plates.specs.declared.refusals.Refusal.TheVariants.{SheetNumber, MemberSpan, MemberNumber, CardNumber, EmptyField};
-ghost use Rattle.joints.specs.Scan.{first_failing};
-ghost use Rattle.joints.specs.Grounds.{within, truss_ranged, listed, spanned, paired, own, loads_ranged, angles_ranged, depth_listed, span_ranged, member_ranged, lateral_ranged, shear_ranged, card_ranged, read_cards, drawn, unless_at, numbers_stand};
+ghost use Rattle.std.specs.Prelude.{◌≡◌, ◌+◌, ◌≤◌, true, length, if◌then◌else◌, Ok, Err};
+ghost use Rattle.joints.specs.Grounds.{within, truss_ranged, listed, spanned, paired, own, loads_ranged, angles_ranged, depth_listed, span_ranged, member_ranged, lateral_ranged, shear_ranged, card_ranged, read_cards, drawn, numbers_stand};
 
-use super::scan::{Test, first_failing};
 use super::sheets::Sheet;
 use plates::Refusal;
 use rules::{Card, Lateral, Member, Span};
@@ -16,6 +13,8 @@ const MAX_MEMBERS: usize = 6;
 const MAX_LOAD: u32 = 200_000;
 
 const MAX_DISTANCE: i32 = 1000;
+
+const DEPTHS: [u32; 7] = [64, 89, 114, 140, 184, 235, 286];
 
 const MAX_STEEL: u32 = 2000;
 
@@ -75,11 +74,7 @@ pub fn own<'a>(sheet: &Sheet, members: &'a [Member]) -> &'a [Member]
 pub fn read_cards(cards: &[Card]) -> &[Card]
     ensures { result.now ≡ read_cards cards.now }
 {
-    if cards.len() > FAMILIES {
-        &cards[0..FAMILIES]
-    } else {
-        cards
-    }
+    &cards[..cards.len().min(FAMILIES)]
 }
 
 fn loads_ranged(m: &Member) -> bool
@@ -97,13 +92,7 @@ fn angles_ranged(m: &Member) -> bool
 fn depth_listed(depth: u32) -> bool
     ensures { result ≡ depth_listed depth }
 {
-    depth == 64
-        || depth == 89
-        || depth == 114
-        || depth == 140
-        || depth == 184
-        || depth == 235
-        || depth == 286
+    DEPTHS.contains(&depth)
 }
 
 fn span_ranged(span: &Span) -> bool
@@ -173,82 +162,22 @@ fn drawn(m: &Member) -> bool
     m.field.x.low < m.field.x.high && m.field.y.low < m.field.y.high
 }
 
-// The tests that the grounds make of each member or card.
-struct MemberRanged;
-
-struct CardRanged;
-
-struct FieldDrawn;
-
-impl Test<Member> for MemberRanged {
-    ghost ready = { λ _ _. Unit {0} };
-
-    ghost holds = { λ _ m. member_ranged m };
-
-    fn holds(&self, item: &Member) -> bool {
-        member_ranged(item)
-    }
-}
-
-impl Test<Card> for CardRanged {
-    ghost ready = { λ _ _. Unit {0} };
-
-    ghost holds = { λ _ c. card_ranged c };
-
-    fn holds(&self, item: &Card) -> bool {
-        card_ranged(item)
-    }
-}
-
-impl Test<Member> for FieldDrawn {
-    ghost ready = { λ _ _. Unit {0} };
-
-    ghost holds = { λ _ m. drawn m };
-
-    fn holds(&self, item: &Member) -> bool {
-        drawn(item)
-    }
-}
-
-// Ground 3: the numbers of each member.
-fn members_stand(first: usize, own: &[Member]) -> Result<(), Refusal>
-    requires { first + length own.now < 2 ^ 64 }
-    ensures { result ≡ unless_at (first_failing member_ranged first own.now) MemberNumber (Ok tt) }
-{
-    match first_failing(&MemberRanged, first, own) {
-        Some(index) => Err(Refusal::MemberNumber { index }),
-        None => Ok(()),
-    }
-}
-
-// Ground 3: the numbers of each card.
-fn cards_stand(cards: &[Card]) -> Result<(), Refusal>
-    ensures { result ≡ unless_at (first_failing card_ranged 0 cards.now) CardNumber (Ok tt) }
-{
-    match first_failing(&CardRanged, 0, cards) {
-        Some(index) => Err(Refusal::CardNumber { index }),
-        None => Ok(()),
-    }
-}
-
-// Ground 4: the field of each member.
-fn fields_stand(first: usize, own: &[Member]) -> Result<(), Refusal>
-    requires { first + length own.now < 2 ^ 64 }
-    ensures { result ≡ unless_at (first_failing drawn first own.now) EmptyField (Ok tt) }
-{
-    match first_failing(&FieldDrawn, first, own) {
-        Some(index) => Err(Refusal::EmptyField { index }),
-        None => Ok(()),
-    }
-}
-
-// Grounds 3 and 4, in their order.
+// Grounds 3 and 4, in their order: the numbers of each member and of each card, and the field of
+// each member.
 pub fn numbers_stand(sheet: &Sheet, members: &[Member], cards: &[Card]) -> Result<(), Refusal>
     requires { sheet.now.first + sheet.now.count ≤ length members.now }
     ensures { result ≡ numbers_stand sheet.now.first (own sheet.now members.now) (read_cards cards.now) }
 {
+    let first = sheet.first;
     let own = own(sheet, members);
-    members_stand(sheet.first, own)?;
-    cards_stand(read_cards(cards))?;
-    fields_stand(sheet.first, own)
+    if let Some(i) = own.iter().position(|m| !member_ranged(m)) {
+        return Err(Refusal::MemberNumber { index: first + i });
+    }
+    if let Some(index) = read_cards(cards).iter().position(|c| !card_ranged(c)) {
+        return Err(Refusal::CardNumber { index });
+    }
+    if let Some(i) = own.iter().position(|m| !drawn(m)) {
+        return Err(Refusal::EmptyField { index: first + i });
+    }
+    Ok(())
 }

@@ -4,7 +4,6 @@
 mod any;
 mod grounds;
 mod heel;
-mod scan;
 mod sheets;
 mod splice;
 mod trying;

@@ -42,10 +42,9 @@ fn splice_clauses(splice: &SpliceSheet, trial: &Trial, own: &[Member]) -> Verdic
     requires own { AllByRecursion MemberWithin own.now }
     ensures { result ≡ first_missed (splice_clauses splice.now (laid trial.now) own.now) own.now }
 {
-    if own.is_empty() {
+    let Some(first) = own.first() else {
         return Verdict::Passes;
-    }
-    let first = &own[0];
+    };
     if !extends(trial, first) {
         return Verdict::Misses {
             clause: Clause::Extent,

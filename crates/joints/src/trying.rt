@@ -5,10 +5,10 @@ ghost use Rattle.plates.specs.Size.{size};
 ghost use Rattle.clauses.specs.Clauses.{laid, meets};
 ghost use Rattle.rules.specs.Ranges.{CardWithin, MemberWithin};
 ghost use Rattle.clauses.specs.Within.{TrialWithin};
+ghost use Rattle.joints.specs.Scan.{first_failing};
 ghost use Rattle.joints.specs.Verdict.{first_missed};
 ghost use Rattle.joints.specs.Checks.{card_of, member_clauses, each_of, checks};
 
-use super::scan::{Test, first_failing};
 use clauses::{Trial, allowed, meets, short_teeth};
 use plates::{Clause, Plate, Turning, Verdict};
 use rules::{Card, Conditions, Member};
@@ -26,32 +26,22 @@ const MEMBER_CLAUSES: [Clause; 6] = [
 pub fn card_of(cards: &[Card], family: u32) -> Option<Card>
     ensures { result ≡ card_of cards.now family }
 {
-    let k = family as usize;
-    if k < cards.len() {
-        Some(cards[k])
-    } else {
-        None
-    }
+    cards.get(family as usize).copied()
 }
 
-// The test that a member clause makes of each member.
-#[derive(Clone, Copy)]
-struct Meets {
-    clause: Clause,
-    trial: Trial,
+// The first member that misses the clause, counted from 1.
+fn first_missing(clause: Clause, trial: &Trial, own: &[Member]) -> Option<usize>
+    requires trial { TrialWithin trial.now }
+    requires own { AllByRecursion MemberWithin own.now }
+    requires few { length own.now ≤ 6 }
+    ensures { result ≡ first_failing (meets clause (laid trial.now)) 1 own.now }
+{
+    own.iter()
+        .position(|m| !meets(clause, trial, m))
+        .map(|i| 1 + i)
 }
 
-impl Test<Member> for Meets {
-    ghost ready = { λ t m. TrialWithin t.trial × MemberWithin m };
-
-    ghost holds = { λ t m. meets t.clause (laid t.trial) m };
-
-    fn holds(&self, item: &Member) -> bool {
-        meets(self.clause, &self.trial, item)
-    }
-}
-
-// The first of the member clauses that is missed, with its first member, counted from 1.
+// The first of the member clauses that is missed, with its first member.
 fn members_verdict(trial: &Trial, own: &[Member]) -> Verdict
     requires trial { TrialWithin trial.now }
     requires own { AllByRecursion MemberWithin own.now }
@@ -59,11 +49,7 @@ fn members_verdict(trial: &Trial, own: &[Member]) -> Verdict
     ensures { result ≡ first_missed (each_of member_clauses (laid trial.now)) own.now }
 {
     for clause in MEMBER_CLAUSES {
-        let test = Meets {
-            clause,
-            trial: *trial,
-        };
-        if let Some(member) = first_failing(&test, 1, own) {
+        if let Some(member) = first_missing(clause, trial, own) {
             return Verdict::Misses { clause, member };
         }
     }

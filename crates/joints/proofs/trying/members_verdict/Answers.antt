@@ -1,18 +1,9 @@
-use Rattle.std.proofs.Common.{sym, ◌∙◌, arith}
-use Rattle.std.proofs.ByRecursion.{All-weaker}
+use Rattle.std.proofs.Common.{sym, ◌∙◌}
 use Rattle.plates.specs.declared.verdicts.Clause.TheVariants.{Turning}
 use Rattle.clauses.specs.Clauses.{laid}
-use Rattle.rules.specs.Ranges.{MemberWithin}
-use Rattle.clauses.specs.Within.{TrialWithin}
 use Rattle.joints.specs.Checks.{member_clauses}
 use Rattle.joints.proofs.Verdicts.{clause_met, clause_missed, all_met}
 use Rattle.joints.proofs.trying.members_verdict.Goals as goal
-
-pub first_failing-requires : goal.first_failing-requires
-first_failing-requires c = record {
-  ready = All-weaker MemberWithin (λ m. TrialWithin c.args.trial.now × MemberWithin m) (λ m h. (c.requires.trial, h)) c.args.own.now c.requires.own;
-  within = omega arith;
-}
 
 pub returns-in-Some : goal.returns-in-Some
 returns-in-Some c =
