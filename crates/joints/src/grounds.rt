@@ -1,6 +1,6 @@
 // The grounds on which a joint is turned away, in their order.
 ghost use Rattle.std.specs.Prelude.{◌≡◌, ◌+◌, ◌≤◌, true, length, if◌then◌else◌, Ok, Err};
-ghost use Rattle.joints.specs.Grounds.{within, truss_ranged, listed, spanned, paired, own, loads_ranged, angles_ranged, depth_listed, span_ranged, member_ranged, lateral_ranged, shear_ranged, card_ranged, read_cards, drawn, numbers_stand};
+ghost use Rattle.joints.specs.Grounds.{within, truss_ranged, listed, spanned, paired, own, loads_ranged, angles_ranged, depth_listed, span_ranged, member_ranged, lateral_ranged, shear_ranged, card_ranged, read_cards, drawn, numbers_stand, stands};
 
 use super::sheets::Sheet;
 use plates::Refusal;
@@ -27,7 +27,7 @@ const MAX_TOOTH: u32 = 40;
 const FAMILIES: usize = 16;
 
 // A ground that is given, where its test fails.
-pub fn ground(right: bool, refusal: Refusal) -> Result<(), Refusal>
+fn ground(right: bool, refusal: Refusal) -> Result<(), Refusal>
     ensures { result ≡ (if right then Ok tt else Err refusal) }
 {
     if right { Ok(()) } else { Err(refusal) }
@@ -164,7 +164,7 @@ fn drawn(m: &Member) -> bool
 
 // Grounds 3 and 4, in their order: the numbers of each member and of each card, and the field of
 // each member.
-pub fn numbers_stand(sheet: &Sheet, members: &[Member], cards: &[Card]) -> Result<(), Refusal>
+fn numbers_stand(sheet: &Sheet, members: &[Member], cards: &[Card]) -> Result<(), Refusal>
     requires { sheet.now.first + sheet.now.count ≤ length members.now }
     ensures { result ≡ numbers_stand sheet.now.first (own sheet.now members.now) (read_cards cards.now) }
 {
@@ -180,4 +180,20 @@ pub fn numbers_stand(sheet: &Sheet, members: &[Member], cards: &[Card]) -> Resul
         return Err(Refusal::EmptyField { index: first + i });
     }
     Ok(())
+}
+
+// The grounds in their order: `right` tells of the sheet's own numbers, `spans` of its members.
+pub fn grounds(
+    right: bool,
+    spans: bool,
+    sheet: &Sheet,
+    members: &[Member],
+    cards: &[Card],
+) -> Result<(), Refusal>
+    requires { spans ≡ true → sheet.now.first + sheet.now.count ≤ length members.now }
+    ensures { result ≡ stands (record { numbers = right; span = spans; first = sheet.now.first; members = own sheet.now members.now; cards = read_cards cards.now }) }
+{
+    ground(right, Refusal::SheetNumber)?;
+    ground(spans, Refusal::MemberSpan)?;
+    numbers_stand(sheet, members, cards)
 }

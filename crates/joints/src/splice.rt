@@ -1,20 +1,18 @@
 // Splice joints.
-ghost use Rattle.std.specs.Prelude.{◌≡◌, ◌<◌, ◌≤◌, length, Ok};
+ghost use Rattle.std.specs.Prelude.{◌≡◌, ◌≤◌};
 ghost use Rattle.std.specs.List.{AllByRecursion};
-ghost use Rattle.plates.specs.Size.{Size, size};
-ghost use Rattle.plates.specs.declared.turnings.Turning.{Turning};
 ghost use Rattle.clauses.specs.Clauses.{laid};
 ghost use Rattle.clauses.specs.Within.{TrialWithin};
 ghost use Rattle.rules.specs.Ranges.{MemberWithin};
-ghost use Rattle.joints.specs.Splices.{splice_ranged, splice_drawing, splice_standing, splice_clauses, splice_checks, splice_verdict};
-ghost use Rattle.joints.specs.Grounds.{Stands};
-ghost use Rattle.joints.specs.Verdict.{Judges, first_missed};
+ghost use Rattle.joints.specs.Splices.{splice_ranged, splice_clauses, splice_draws, splice_asks};
+ghost use Rattle.joints.specs.Verdict.{first_missed};
 
-use super::grounds::{ground, numbers_stand, own, paired, read_cards, truss_ranged};
-use super::sheets::{SpliceJoint, SpliceSheet};
+use super::grounds::{grounds, own, paired, read_cards, truss_ranged};
+use super::kinds::{Kind, SheetJoint};
+use super::sheets::SpliceSheet;
 use super::trying::{card_of, tried};
 use clauses::{Trial, extends, holds_moment, section};
-use plates::{Clause, Joint, Plate, Refusal, Turning, Verdict};
+use plates::{Clause, Plate, Refusal, Turning, Verdict};
 use rules::{Card, Member};
 
 const MAX_MOMENT: u32 = 20_000_000;
@@ -60,41 +58,30 @@ fn splice_clauses(splice: &SpliceSheet, trial: &Trial, own: &[Member]) -> Verdic
     Verdict::Passes
 }
 
-impl<'a> SpliceJoint<'a> {
-    // The joint of a splice sheet over the caller's members and cards, with what its standing and
-    // its verdicts mean.
-    pub fn new(splice: SpliceSheet, members: &'a [Member], cards: &'a [Card]) -> Self
-        ensures splice { result.splice ≡ splice }
-        ensures members { result.members.now ≡ members.now }
-        ensures cards { result.cards.now ≡ cards.now }
-        ensures stands { Stands (splice_drawing result) (splice_standing result) }
-        ensures judges { (s : Size) (t : Turning) → Judges (splice_checks result s t) (splice_drawing result).members (splice_verdict result s t) }
-    {
-        SpliceJoint {
-            splice,
-            members,
-            cards,
-        }
+pub type SpliceJoint<'a> = SheetJoint<'a, SpliceSheet>;
+
+impl Kind for SpliceSheet {
+    ghost draws = { splice_draws };
+
+    ghost asks = { splice_asks };
+
+    fn standing_over(&self, members: &[Member], cards: &[Card]) -> Result<(), Refusal> {
+        let sheet = &self.sheet;
+        let right = splice_ranged(self);
+        grounds(right, paired(sheet, members.len()), sheet, members, cards)
     }
 
-    // The grounds in their order.
-    fn grounds(&self) -> Result<(), Refusal>
-        ensures { result ≡ splice_standing self.now }
-    {
-        let sheet = &self.splice.sheet;
-        ground(splice_ranged(&self.splice), Refusal::SheetNumber)?;
-        ground(paired(sheet, self.members.len()), Refusal::MemberSpan)?;
-        numbers_stand(sheet, self.members, self.cards)
-    }
-
-    // The clauses in their order: A to I, then J and K.
-    fn clauses(&self, plate: Plate, turning: Turning) -> Verdict
-        requires { splice_standing self.now ≡ Ok tt }
-        ensures { result ≡ splice_verdict self.now (size plate) turning }
-    {
-        let conditions = self.splice.sheet.conditions;
-        let own = own(&self.splice.sheet, self.members);
-        let cards = read_cards(self.cards);
+    // A to I, then J and K.
+    fn verdict_over(
+        &self,
+        members: &[Member],
+        cards: &[Card],
+        plate: Plate,
+        turning: Turning,
+    ) -> Verdict {
+        let conditions = self.sheet.conditions;
+        let own = own(&self.sheet, members);
+        let cards = read_cards(cards);
         let verdict = tried(&conditions, FACTOR, cards, own, plate, turning);
         if !verdict.passes() {
             return verdict;
@@ -103,7 +90,7 @@ impl<'a> SpliceJoint<'a> {
             return verdict;
         };
         splice_clauses(
-            &self.splice,
+            self,
             &Trial {
                 conditions,
                 factor: FACTOR,
@@ -113,19 +100,5 @@ impl<'a> SpliceJoint<'a> {
             },
             own,
         )
-    }
-}
-
-impl Joint for SpliceJoint<'_> {
-    ghost standing = { splice_standing };
-
-    ghost verdict = { splice_verdict };
-
-    fn standing(&self) -> Result<(), Refusal> {
-        self.grounds()
-    }
-
-    fn verdict(&self, plate: Plate, turning: Turning) -> Verdict {
-        self.clauses(plate, turning)
     }
 }
