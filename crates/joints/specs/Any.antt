@@ -36,7 +36,7 @@ abbrev pub any_standing : AnyJoint → Result (Unit {0}) Refusal
 any_standing j = sheet_standing any_draws j
 
 abbrev pub any_checks : AnyJoint → Size → Turning → List Check
-any_checks j s t = sheet_checks any_asks j s t
+any_checks j = sheet_checks any_asks j
 
 abbrev pub any_verdict : AnyJoint → Size → Turning → Verdict
-any_verdict j s t = sheet_verdict any_draws any_asks j s t
+any_verdict j = sheet_verdict any_draws any_asks j

@@ -41,7 +41,7 @@ abbrev pub heel_standing : HeelJoint → Result (Unit {0}) Refusal
 heel_standing j = sheet_standing heel_draws j
 
 abbrev pub heel_checks : HeelJoint → Size → Turning → List Check
-heel_checks j s t = sheet_checks heel_asks j s t
+heel_checks j = sheet_checks heel_asks j
 
 abbrev pub heel_verdict : HeelJoint → Size → Turning → Verdict
-heel_verdict j s t = sheet_verdict heel_draws heel_asks j s t
+heel_verdict j = sheet_verdict heel_draws heel_asks j

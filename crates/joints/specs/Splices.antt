@@ -60,7 +60,7 @@ abbrev pub splice_standing : SpliceJoint → Result (Unit {0}) Refusal
 splice_standing j = sheet_standing splice_draws j
 
 abbrev pub splice_checks : SpliceJoint → Size → Turning → List Check
-splice_checks j s t = sheet_checks splice_asks j s t
+splice_checks j = sheet_checks splice_asks j
 
 abbrev pub splice_verdict : SpliceJoint → Size → Turning → Verdict
-splice_verdict j s t = sheet_verdict splice_draws splice_asks j s t
+splice_verdict j = sheet_verdict splice_draws splice_asks j

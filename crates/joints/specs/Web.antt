@@ -37,7 +37,7 @@ abbrev pub web_standing : WebJoint → Result (Unit {0}) Refusal
 web_standing j = sheet_standing web_draws j
 
 abbrev pub web_checks : WebJoint → Size → Turning → List Check
-web_checks j s t = sheet_checks web_asks j s t
+web_checks j = sheet_checks web_asks j
 
 abbrev pub web_verdict : WebJoint → Size → Turning → Verdict
-web_verdict j s t = sheet_verdict web_draws web_asks j s t
+web_verdict j = sheet_verdict web_draws web_asks j
