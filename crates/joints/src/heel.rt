@@ -2,10 +2,10 @@
 ghost use Rattle.std.specs.Prelude.{◌≡◌};
 ghost use Rattle.joints.specs.Heels.{heel_ranged, heel_draws, heel_asks};
 
-use super::grounds::{grounds, own, read_cards, spanned, truss_ranged};
+use super::grounds::{grounds, spanned, truss_ranged};
 use super::kinds::{Kind, SheetJoint};
 use super::sheets::HeelSheet;
-use super::trying::tried;
+use super::trying::Lawful;
 use plates::{Plate, Refusal, Turning, Verdict};
 use rules::{Card, Member, heel_factor};
 
@@ -42,15 +42,8 @@ impl Kind for HeelSheet {
         plate: Plate,
         turning: Turning,
     ) -> Verdict {
-        let own = own(&self.sheet, members);
         let factor = heel_factor(self.rule, self.rise, self.run);
-        tried(
-            &self.sheet.conditions,
-            factor,
-            read_cards(cards),
-            own,
-            plate,
-            turning,
-        )
+        let lawful = Lawful::new(&self.sheet, members, cards);
+        lawful.tried(&self.sheet.conditions, factor, plate, turning)
     }
 }

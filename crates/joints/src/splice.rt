@@ -1,16 +1,14 @@
 // Splice joints.
 ghost use Rattle.std.specs.Prelude.{◌≡◌, ◌≤◌};
-ghost use Rattle.std.specs.List.{AllByRecursion};
 ghost use Rattle.clauses.specs.Clauses.{laid};
 ghost use Rattle.clauses.specs.Within.{TrialWithin};
-ghost use Rattle.rules.specs.Ranges.{MemberWithin};
 ghost use Rattle.joints.specs.Splices.{splice_ranged, splice_clauses, splice_draws, splice_asks};
 ghost use Rattle.joints.specs.Verdict.{first_missed};
 
-use super::grounds::{grounds, own, paired, read_cards, truss_ranged};
+use super::grounds::{grounds, paired, truss_ranged};
 use super::kinds::{Kind, SheetJoint};
 use super::sheets::SpliceSheet;
-use super::trying::{card_of, tried};
+use super::trying::{Lawful, missed};
 use clauses::{Trial, extends, holds_moment, section};
 use plates::{Clause, Plate, Refusal, Turning, Verdict};
 use rules::{Card, Member};
@@ -33,27 +31,20 @@ fn splice_ranged(splice: &SpliceSheet) -> bool
 }
 
 // J and K, of the first member.
-fn splice_clauses(splice: &SpliceSheet, trial: &Trial, own: &[Member]) -> Verdict
+fn splice_clauses(splice: &SpliceSheet, trial: &Trial, lawful: &Lawful) -> Verdict
     requires moment { splice.now.moment ≤ 20000000 }
     requires wood { (1 ≤ splice.now.wood) × (splice.now.wood ≤ 400) }
     requires trial { TrialWithin trial.now }
-    requires own { AllByRecursion MemberWithin own.now }
-    ensures { result ≡ first_missed (splice_clauses splice.now (laid trial.now) own.now) own.now }
+    ensures { result ≡ first_missed (splice_clauses splice.now (laid trial.now) lawful.now.own.now) lawful.now.own.now }
 {
-    let Some(first) = own.first() else {
+    let Some(first) = lawful.own.first() else {
         return Verdict::Passes;
     };
     if !extends(trial, first) {
-        return Verdict::Misses {
-            clause: Clause::Extent,
-            member: 0,
-        };
+        return missed(Clause::Extent);
     }
     if !holds_moment(splice.moment, &section(trial, first, splice.wood)) {
-        return Verdict::Misses {
-            clause: Clause::Moment,
-            member: 0,
-        };
+        return missed(Clause::Moment);
     }
     Verdict::Passes
 }
@@ -80,13 +71,12 @@ impl Kind for SpliceSheet {
         turning: Turning,
     ) -> Verdict {
         let conditions = self.sheet.conditions;
-        let own = own(&self.sheet, members);
-        let cards = read_cards(cards);
-        let verdict = tried(&conditions, FACTOR, cards, own, plate, turning);
+        let lawful = Lawful::new(&self.sheet, members, cards);
+        let verdict = lawful.tried(&conditions, FACTOR, plate, turning);
         if !verdict.passes() {
             return verdict;
         }
-        let Some(card) = card_of(cards, plate.family()) else {
+        let Some(card) = lawful.card(plate.family()) else {
             return verdict;
         };
         splice_clauses(
@@ -98,7 +88,7 @@ impl Kind for SpliceSheet {
                 plate,
                 turning,
             },
-            own,
+            &lawful,
         )
     }
 }

@@ -1,10 +1,10 @@
 // Web joints.
 ghost use Rattle.joints.specs.Web.{web_draws, web_asks};
 
-use super::grounds::{grounds, own, read_cards, spanned, truss_ranged};
+use super::grounds::{grounds, spanned, truss_ranged};
 use super::kinds::{Kind, SheetJoint};
 use super::sheets::Sheet;
-use super::trying::tried;
+use super::trying::Lawful;
 use plates::{Plate, Refusal, Turning, Verdict};
 use rules::{Card, Member};
 
@@ -30,14 +30,6 @@ impl Kind for Sheet {
         plate: Plate,
         turning: Turning,
     ) -> Verdict {
-        let own = own(self, members);
-        tried(
-            &self.conditions,
-            FACTOR,
-            read_cards(cards),
-            own,
-            plate,
-            turning,
-        )
+        Lawful::new(self, members, cards).tried(&self.conditions, FACTOR, plate, turning)
     }
 }

@@ -1,29 +1,17 @@
-use Rattle.std.proofs.Common.{◌≡◌, true, false, List, Some, sym, ap, ◌∙◌, subst, arith}
-use Rattle.std.specs.List.{AllByRecursion}
+use Rattle.std.proofs.Common.{◌≡◌, true, false, List, Some, sym, ap, ◌∙◌}
 use Rattle.plates.specs.Size.{Size, size}
 use Rattle.plates.specs.Verdicts.{passes}
 use Rattle.plates.specs.declared.turnings.Turning.{Turning}
 use Rattle.plates.specs.declared.verdicts.Verdict.{Verdict}
-use Rattle.rules.specs.Ranges.{CardWithin, MemberWithin}
 use Rattle.rules.specs.declared.terms.Card.{Card}
 use Rattle.rules.specs.declared.terms.Member.{Member}
 use Rattle.joints.specs.Checks.{card_of, checks}
 use Rattle.joints.specs.Grounds.{own, read_cards}
-use Rattle.joints.specs.Splices.{splice_draws, splice_only, splice_asks}
+use Rattle.joints.specs.Splices.{splice_only, splice_asks}
 use Rattle.joints.specs.Verdict.{Check, first_missed}
 use Rattle.joints.specs.declared.sheets.SpliceSheet.{SpliceSheet}
-use Rattle.joints.proofs.Standing.{lawful}
 use Rattle.joints.proofs.Verdicts.{missed_before, passed_before}
-use Rattle.joints.proofs.Within.{card_found}
 use Rattle.joints.proofs.splice.SpliceSheetKind.verdict_over.Goals as goal
-
-pub tried-verdict-requires-clause-cards : goal.tried-verdict-requires-clause-cards
-tried-verdict-requires-clause-cards c =
-    subst (AllByRecursion CardWithin) (sym c.read_cards-cards.ensures) (lawful (splice_draws c.args.self.now c.args.members.now c.args.cards.now) c.requires).carded
-
-pub tried-verdict-requires-clause-own : goal.tried-verdict-requires-clause-own
-tried-verdict-requires-clause-own c =
-    subst (AllByRecursion MemberWithin) (sym c.own-own.ensures) (lawful (splice_draws c.args.self.now c.args.members.now c.args.cards.now) c.requires).ranged
 
 -- the clauses A to I over the joint's own members and cards, and J and K after them
 module _ (j : SpliceSheet) (ms : List Member) (cs : List Card) (p : Size) (t : Turning) where
@@ -52,20 +40,8 @@ returns-then-not-passes c =
     let cs = c.args.cards.now in
     let p = size c.args.plate in
     let t = c.args.turning in
-    let is : c.tried-verdict.result ≡ first_missed (base j ms cs p t) (own j.sheet ms) = c.tried-verdict.ensures ∙ (λ i. first_missed (checks j.sheet.conditions 100 (card_of (c.read_cards-cards.ensures i) p.family) p t) (c.own-own.ensures i)) in
+    let is : c.tried-verdict.result ≡ first_missed (base j ms cs p t) (own j.sheet ms) = c.tried-verdict.ensures ∙ (λ i. first_missed (checks j.sheet.conditions 100 (card_of (c.new-lawful.ensures.cards i) p.family) p t) (c.new-lawful.ensures.own i)) in
     ended j ms cs p t _ is (sym c.if-not-passes.ensures)
-
-pub splice_clauses-requires-clause-trial : goal.splice_clauses-requires-clause-trial
-splice_clauses-requires-clause-trial c =
-    let given = lawful (splice_draws c.args.self.now c.args.members.now c.args.cards.now) c.requires in
-    record {
-      factor = omega arith;
-      card = card_found CardWithin c.read_cards-cards.result.now _ _ (subst (AllByRecursion CardWithin) (sym c.read_cards-cards.ensures) given.carded) (sym c.in-Some.ensures);
-    }
-
-pub splice_clauses-requires-clause-own : goal.splice_clauses-requires-clause-own
-splice_clauses-requires-clause-own c =
-    subst (AllByRecursion MemberWithin) (sym c.own-own.ensures) (lawful (splice_draws c.args.self.now c.args.members.now c.args.cards.now) c.requires).ranged
 
 pub returns : goal.returns
 unfolding base rest whole
@@ -76,9 +52,9 @@ returns c =
     let p = size c.args.plate in
     let t = c.args.turning in
     let own-ms = own j.sheet ms in
-    let is : c.tried-verdict.result ≡ first_missed (base j ms cs p t) own-ms = c.tried-verdict.ensures ∙ (λ i. first_missed (checks j.sheet.conditions 100 (card_of (c.read_cards-cards.ensures i) p.family) p t) (c.own-own.ensures i)) in
-    let has : card_of (read_cards cs) p.family ≡ Some c.in-Some.card = (λ i. card_of (sym c.read_cards-cards.ensures i) (sym c.family.ensures i)) ∙ sym c.in-Some.ensures in
+    let is : c.tried-verdict.result ≡ first_missed (base j ms cs p t) own-ms = c.tried-verdict.ensures ∙ (λ i. first_missed (checks j.sheet.conditions 100 (card_of (c.new-lawful.ensures.cards i) p.family) p t) (c.new-lawful.ensures.own i)) in
+    let has : card_of (read_cards cs) p.family ≡ Some c.in-Some.card = (λ i. card_of (sym c.new-lawful.ensures.cards i) (sym c.family.ensures i)) ∙ sym c.in-Some.ensures.card in
     let next : c.splice_clauses.result ≡ first_missed (rest j ms cs p t) own-ms =
-    c.splice_clauses.ensures ∙ (λ i. first_missed (splice_only j (Some c.in-Some.card) p t (c.own-own.ensures i)) (c.own-own.ensures i)) ∙ (λ i. first_missed (splice_only j (sym has i) p t own-ms) own-ms)
+    c.splice_clauses.ensures ∙ (λ i. first_missed (splice_only j (Some c.in-Some.card) p t (c.new-lawful.ensures.own i)) (c.new-lawful.ensures.own i)) ∙ (λ i. first_missed (splice_only j (sym has i) p t own-ms) own-ms)
     in
     went_on j ms cs p t _ _ is (sym c.if-not-passes.ensures) next
