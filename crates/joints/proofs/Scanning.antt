@@ -1,7 +1,9 @@
 -- The scan for the first item that fails: how `position` finds it, and what its result means.
-use Rattle.std.proofs.Common.{◌≡◌, ℕ, zero, suc, ◌+◌, ◌<◌, Bool, true, false, cond, List, [], ◌∷◌, length, Some, None, Option, sym, refl, ap, ◌∙◌, add-zero, arith}
+use Rattle.std.proofs.Common.{◌≡◌, ℕ, zero, suc, ◌+◌, ◌<◌, Bool, true, false, cond, List, [], ◌∷◌, length, Some, None, Option, ◌&&◌, slice_index, sym, refl, ap, ◌∙◌, add-zero, arith}
 use Rattle.std.specs.List.{AllByRecursion, AllWithin, HoldsAt}
+use Rattle.std.specs.Bool.{MatchBool}
 use Rattle.std.specs.Option.{MatchOption, option_map}
+use Rattle.std.proofs.lemmas.Grind.{common_steps}
 use Rattle.std.proofs.lemmas.Bool.{cond-true, cond-false}
 use Rattle.joints.specs.Scan.{first_failing, FirstFailing}
 
@@ -44,3 +46,28 @@ first_one p start x xs false t r h = record { before = []; item = x; after = xs;
 pub means : {T : Type 0} (p : T → Bool) (start : ℕ) (xs : List T) → Means p start xs (first_failing p start xs)
 means p start [] = tt
 means p start (x ∷ xs) = first_one p start x xs (p x) refl _ (means p (start + 1) xs)
+
+-- what `all` tells of a list of six
+module _ (p : ℕ → Bool) (v : List ℕ) where
+  abbrev AllSix : Bool
+  AllSix = p (slice_index v 0) && (p (slice_index v 1) && (p (slice_index v 2) && (p (slice_index v 3) && (p (slice_index v 4) && p (slice_index v 5)))))
+
+  fails_at : (k : ℕ) → k < 6 → p (slice_index v k) ≡ false → AllSix ≡ false
+  fails_at zero h e = grind (arith, common_steps)
+  fails_at (suc zero) h e = grind (arith, common_steps)
+  fails_at (suc (suc zero)) h e = grind (arith, common_steps)
+  fails_at (suc (suc (suc zero))) h e = grind (arith, common_steps)
+  fails_at (suc (suc (suc (suc zero)))) h e = grind (arith, common_steps)
+  fails_at (suc (suc (suc (suc (suc zero))))) h e = grind (arith, common_steps)
+  fails_at (suc (suc (suc (suc (suc (suc k)))))) h e = absurd (omega arith)
+
+  pub all_six : (r : Bool) → length v ≡ 6 → MatchBool r (AllWithin (λ x. p x ≡ true) v 0 (length v)) ((k : ℕ) × (k < length v) × HoldsAt (λ x. p x ≡ false) v k) → r ≡ AllSix
+  all_six false n h = sym (fails_at h.0 (omega (arith, h.1)) (h.2 0))
+  all_six true n h =
+      let a = h 0 0 (omega arith) (omega arith) in
+      let b = h 1 0 (omega arith) (omega arith) in
+      let c = h 2 0 (omega arith) (omega arith) in
+      let d = h 3 0 (omega arith) (omega arith) in
+      let e = h 4 0 (omega arith) (omega arith) in
+      let f = h 5 0 (omega arith) (omega arith) in
+      grind (arith, common_steps, a, b, c, d, e, f)

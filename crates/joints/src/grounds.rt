@@ -37,8 +37,7 @@ fn ground(right: bool, refusal: Refusal) -> Result<(), Refusal>
 pub fn truss_ranged(sheet: &Sheet) -> bool
     ensures { result ≡ truss_ranged sheet.now }
 {
-    let truss = sheet.conditions.truss;
-    1 <= truss && truss <= MAX_TRUSS
+    (1..=MAX_TRUSS).contains(&sheet.conditions.truss)
 }
 
 // Ground 2: the members lie in the caller's list.
@@ -52,7 +51,7 @@ fn listed(sheet: &Sheet, list: usize) -> bool
 pub fn spanned(sheet: &Sheet, list: usize) -> bool
     ensures { result ≡ spanned sheet.now list }
 {
-    1 <= sheet.count && sheet.count <= MAX_MEMBERS && listed(sheet, list)
+    (1..=MAX_MEMBERS).contains(&sheet.count) && listed(sheet, list)
 }
 
 // Ground 2 for a splice: and they number two.
@@ -98,10 +97,8 @@ fn depth_listed(depth: u32) -> bool
 fn span_ranged(span: &Span) -> bool
     ensures { result ≡ span_ranged span.now }
 {
-    -MAX_DISTANCE <= span.low
-        && span.low <= MAX_DISTANCE
-        && -MAX_DISTANCE <= span.high
-        && span.high <= MAX_DISTANCE
+    let distances = -MAX_DISTANCE..=MAX_DISTANCE;
+    distances.contains(&span.low) && distances.contains(&span.high)
 }
 
 fn member_ranged(m: &Member) -> bool
@@ -126,25 +123,25 @@ fn lateral_ranged(v: &Lateral) -> bool
 fn tooth_value_ranged(v: u32) -> bool
     ensures { result ≡ within 10 20000 v }
 {
-    MIN_TOOTH_VALUE <= v && v <= MAX_TOOTH_VALUE
+    (MIN_TOOTH_VALUE..=MAX_TOOTH_VALUE).contains(&v)
 }
 
 fn steel_ranged(v: u32) -> bool
     ensures { result ≡ within 1 2000 v }
 {
-    1 <= v && v <= MAX_STEEL
+    (1..=MAX_STEEL).contains(&v)
 }
 
 fn shear_ranged(v: [u32; 6]) -> bool
     ensures { result ≡ shear_ranged v }
 {
-    let [a, b, c, d, e, f] = v;
-    steel_ranged(a)
-        && steel_ranged(b)
-        && steel_ranged(c)
-        && steel_ranged(d)
-        && steel_ranged(e)
-        && steel_ranged(f)
+    v.iter().all(|x| steel_ranged(*x))
+}
+
+fn tooth_ranged(v: u32) -> bool
+    ensures { result ≡ within 1 40 v }
+{
+    (1..=MAX_TOOTH).contains(&v)
 }
 
 fn card_ranged(c: &Card) -> bool
@@ -152,7 +149,7 @@ fn card_ranged(c: &Card) -> bool
 {
     let lateral = lateral_ranged(&c.teeth) && lateral_ranged(&c.slip);
     let tension = steel_ranged(c.t0) && steel_ranged(c.t90);
-    lateral && tension && shear_ranged(c.shear) && 1 <= c.tooth && c.tooth <= MAX_TOOTH
+    lateral && tension && shear_ranged(c.shear) && tooth_ranged(c.tooth)
 }
 
 // Ground 4: the field is not empty.

@@ -16,10 +16,8 @@ fn heel_ranged(heel: &HeelSheet) -> bool
     ensures { result ≡ heel_ranged heel.now }
 {
     truss_ranged(&heel.sheet)
-        && 1 <= heel.rise
-        && heel.rise <= MAX_SLOPE
-        && 1 <= heel.run
-        && heel.run <= MAX_SLOPE
+        && (1..=MAX_SLOPE).contains(&heel.rise)
+        && (1..=MAX_SLOPE).contains(&heel.run)
 }
 
 pub type HeelJoint<'a> = SheetJoint<'a, HeelSheet>;

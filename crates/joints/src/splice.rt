@@ -26,8 +26,7 @@ fn splice_ranged(splice: &SpliceSheet) -> bool
 {
     truss_ranged(&splice.sheet)
         && splice.moment <= MAX_MOMENT
-        && 1 <= splice.wood
-        && splice.wood <= MAX_WOOD
+        && (1..=MAX_WOOD).contains(&splice.wood)
 }
 
 // J and K, of the first member.
