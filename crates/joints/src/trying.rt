@@ -18,14 +18,19 @@ use clauses::{Trial, allowed, meets, short_teeth};
 use plates::{Clause, Plate, Turning, Verdict};
 use rules::{Card, Conditions, Member};
 
-const MEMBER_CLAUSES: [Clause; 6] = [
-    Clause::Bite,
-    Clause::CrossGrain,
-    Clause::Grip,
-    Clause::Tension,
-    Clause::Shear,
-    Clause::Slip,
-];
+// What is asked of each member: the clauses D to I, in order.
+fn member_clauses() -> [Clause; 6]
+    ensures { result ≡ member_clauses }
+{
+    [
+        Clause::Bite,
+        Clause::CrossGrain,
+        Clause::Grip,
+        Clause::Tension,
+        Clause::Shear,
+        Clause::Slip,
+    ]
+}
 
 // A clause of the joint as a whole is missed.
 pub fn missed(clause: Clause) -> Verdict
@@ -82,7 +87,7 @@ impl<'a> Lawful<'a> {
         requires { TrialWithin trial.now }
         ensures { result ≡ first_missed (each_of member_clauses (laid trial.now)) self.now.own.now }
     {
-        for clause in MEMBER_CLAUSES {
+        for clause in member_clauses() {
             if let Some(member) = self.first_missing(clause, trial) {
                 return Verdict::Misses { clause, member };
             }
