@@ -1,6 +1,10 @@
 -- The scan for the first item that fails: how `position` finds it, and what its result means.
 use Rattle.std.proofs.Common.{◌≡◌, ℕ, zero, suc, ◌+◌, ◌<◌, Bool, true, false, cond, List, [], ◌∷◌, length, Some, None, Option, ◌&&◌, slice_index, sym, refl, ap, ◌∙◌, add-zero, arith}
-use Rattle.std.specs.List.{AllByRecursion, AllWithin, HoldsAt}
+use denote.Param.Members.{Mut}
+use Rattle.std.proofs.lemmas.Iterator.{YieldsList, IsFirst-from_position}
+use Rattle.std.specs.Fn.{Called}
+use Rattle.std.specs.Iterator.{YieldsThen}
+use Rattle.std.specs.List.{AllByRecursion, AllWithin, FoldsTo, HoldsAt}
 use Rattle.std.specs.Bool.{MatchBool}
 use Rattle.std.specs.Option.{MatchOption, option_map}
 use Rattle.std.proofs.lemmas.Grind.{common_steps}
@@ -8,7 +12,7 @@ use Rattle.std.proofs.lemmas.Bool.{cond-true, cond-false}
 use Rattle.joints.specs.Scan.{first_failing, FirstFailing}
 
 -- the first item that fails, where `position` looked for it from 0 on
-pub first_from : {T : Type 0} (p : T → Bool) (start : ℕ) (xs : List T) (r : Option ℕ)
+first_from : {T : Type 0} (p : T → Bool) (start : ℕ) (xs : List T) (r : Option ℕ)
     → MatchOption r (AllWithin (λ x. p x ≡ true) xs 0 (length xs)) (λ i. (i < length xs) × HoldsAt (λ x. p x ≡ false) xs i × AllWithin (λ x. p x ≡ true) xs 0 i)
     → option_map (λ i. start + i) r ≡ first_failing p start xs
 first_from p start [] None h = refl
@@ -21,6 +25,13 @@ first_from p start (x ∷ xs) (Some (suc i)) h =
     let here : p x ≡ true = h.2 0 x (omega arith) (omega arith) in
     let later : option_map (λ i. (start + 1) + i) (Some i) ≡ first_failing p (start + 1) xs = first_from p (start + 1) xs (Some i) (inside, λ d. h.1 d, λ k d l m. h.2 (suc k) d (omega arith) (omega arith)) in
     ap Some (omega arith) ∙ later ∙ sym (cond-true (p x) _ _ here)
+
+-- the same, by what a chain gives and what the closure tells of each item
+pub found_at : {S A B F : Type 0} {steps : S → Option A → S → Type 0} {v : A → B} {g : Mut F (A × Unit {0}) Bool} {s : S} {all : List B} (p : B → Bool) (start : ℕ) (u : S) (f : F) (r : Option ℕ)
+    → (xs : List A) × (o : Option A) × (j : F) × YieldsThen steps s xs o u × FoldsTo (λ a x b. Called g a (x, tt) false b) f xs j × MatchOption o (r ≡ None) (λ x. (r ≡ Some (length xs)) × ((h : F) × Called g j (x, tt) true h))
+    → YieldsList steps v s all → ((x : A) (q : F) → Called g f (x, tt) true q → p (v x) ≡ false) → ((x : A) (q : F) → Called g f (x, tt) false q → (q ≡ f) × (p (v x) ≡ true))
+    → option_map (λ i. start + i) r ≡ first_failing p start all
+found_at {all} p start u f r ran road found passed = first_from p start all r (IsFirst-from_position u f r (λ x. p x ≡ false) (λ x. p x ≡ true) ran road found passed)
 
 -- what the result means
 abbrev pub Means : {T : Type 0} → (T → Bool) → ℕ → List T → Option ℕ → Type 0

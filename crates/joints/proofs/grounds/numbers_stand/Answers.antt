@@ -1,28 +1,22 @@
-use Rattle.std.proofs.Common.{◌≡◌, ◌+◌, true, false, rules, arith}
+use Rattle.std.proofs.Common.{◌≡◌, ◌+◌, rules, arith}
 use borrow.Author.Tests.{tests}
-use Rattle.std.proofs.lemmas.Iterator.{YieldsList-from_slice, IsFirst-from_position}
+use Rattle.std.proofs.lemmas.Iterator.{YieldsList-from_slice}
 use Rattle.std.proofs.lemmas.Grind.{common_steps}
 use Rattle.std.specs.Option.{option_map}
 use Rattle.joints.specs.Grounds.{member_ranged, card_ranged, drawn}
 use Rattle.joints.specs.Scan.{first_failing}
-use Rattle.joints.proofs.Scanning.{first_from}
+use Rattle.joints.proofs.Scanning.{found_at}
 use Rattle.joints.proofs.grounds.numbers_stand.Goals as goal
 use Rattle.joints.proofs.grounds.numbers_stand.Goals.{After-position, After-position-2, After-position-3}
 
 members_found : (c : After-position) → option_map (λ i. c.args.sheet.now.first + i) c.position.result ≡ first_failing member_ranged c.args.sheet.now.first c.own-own.result.now
-members_found c =
-    let first = IsFirst-from_position _ _ _ (λ m. member_ranged m ≡ false) (λ m. member_ranged m ≡ true) c.position.ensures.ran (YieldsList-from_slice c.own-own.result.now cc) (λ x q k. search (rules, tests)) (λ x q k. search (rules, tests)) in
-    first_from member_ranged c.args.sheet.now.first c.own-own.result.now _ first
+members_found c = found_at member_ranged c.args.sheet.now.first _ _ _ c.position.ensures.ran (YieldsList-from_slice c.own-own.result.now cc) (λ x q k. search (rules, tests)) (λ x q k. search (rules, tests))
 
 cards_found : (c : After-position-2) → option_map (λ i. 0 + i) c.position-2.result ≡ first_failing card_ranged 0 c.read_cards.result.now
-cards_found c =
-    let first = IsFirst-from_position _ _ _ (λ m. card_ranged m ≡ false) (λ m. card_ranged m ≡ true) c.position-2.ensures.ran (YieldsList-from_slice c.read_cards.result.now cc) (λ x q k. search (rules, tests)) (λ x q k. search (rules, tests)) in
-    first_from card_ranged 0 c.read_cards.result.now _ first
+cards_found c = found_at card_ranged 0 _ _ _ c.position-2.ensures.ran (YieldsList-from_slice c.read_cards.result.now cc) (λ x q k. search (rules, tests)) (λ x q k. search (rules, tests))
 
 fields_found : (c : After-position-3) → option_map (λ i. c.args.sheet.now.first + i) c.position-3.result ≡ first_failing drawn c.args.sheet.now.first c.own-own.result.now
-fields_found c =
-    let first = IsFirst-from_position _ _ _ (λ m. drawn m ≡ false) (λ m. drawn m ≡ true) c.position-3.ensures.ran (YieldsList-from_slice c.own-own.result.now cc) (λ x q k. search (rules, tests)) (λ x q k. search (rules, tests)) in
-    first_from drawn c.args.sheet.now.first c.own-own.result.now _ first
+fields_found c = found_at drawn c.args.sheet.now.first _ _ _ c.position-3.ensures.ran (YieldsList-from_slice c.own-own.result.now cc) (λ x q k. search (rules, tests)) (λ x q k. search (rules, tests))
 
 pub returns-in-Some : goal.returns-in-Some
 returns-in-Some c =
