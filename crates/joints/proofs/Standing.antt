@@ -1,11 +1,9 @@
 -- What a standing means.
-use Rattle.std.proofs.Common.{◌≡◌, ℕ, Bool, true, false, cond, List, Some, None, Ok, Err, Option, Result, refl, subst, arith}
+use Rattle.std.proofs.Common.{◌≡◌, ℕ, Bool, true, false, cond, List, Some, None, Ok, Err, Option, refl, subst}
 use Rattle.rules.specs.declared.terms.Card.{Card}
 use Rattle.rules.specs.declared.terms.Member.{Member}
 use Rattle.joints.specs.Grounds.{MembersRanged, CardsRanged, member_ranged, card_ranged, drawn, unless_at, numbers_stand, Drawing, stands, Stands}
-use Rattle.plates.specs.Refusals.{Grounded}
-use Rattle.plates.specs.declared.refusals.Refusal.{Refusal}
-use Rattle.plates.specs.declared.refusals.Refusal.TheVariants.{SheetNumber, MemberSpan, MemberNumber, CardNumber, EmptyField, NoPlace, BadReceipt, BookFull, NothingFits, OtherStamp, NoneOut}
+use Rattle.plates.specs.declared.refusals.Refusal.TheVariants.{SheetNumber, MemberSpan, MemberNumber, CardNumber, EmptyField}
 use Rattle.std.specs.List.{All}
 use Rattle.std.proofs.ByRecursion.{All-get_or}
 use Rattle.rules.specs.Ranges.{CardWithin, MemberWithin}
@@ -43,20 +41,3 @@ module _ (first : ℕ) (ms : List Member) (cs : List Card) (e : numbers_stand fi
 
   pub cards_within : All CardWithin cs
   cards_within = λ k d h. card_within _ (All-get_or (λ c. card_ranged c ≡ true) cs k d h ruled.1)
-
-numbered_to_4 : (d : Drawing) (r : Result (Unit {0}) Refusal) → Stands d r → Grounded r
-numbered_to_4 d (Ok u) h = tt
-numbered_to_4 d (Err SheetNumber) h = omega arith
-numbered_to_4 d (Err MemberSpan) h = omega arith
-numbered_to_4 d (Err (MemberNumber k)) h = omega arith
-numbered_to_4 d (Err (CardNumber k)) h = omega arith
-numbered_to_4 d (Err (EmptyField k)) h = omega arith
-numbered_to_4 d (Err (NoPlace k)) h = absurd h
-numbered_to_4 d (Err (BadReceipt k)) h = absurd h
-numbered_to_4 d (Err BookFull) h = absurd h
-numbered_to_4 d (Err NothingFits) h = absurd h
-numbered_to_4 d (Err OtherStamp) h = absurd h
-numbered_to_4 d (Err NoneOut) h = absurd h
-
-pub grounded : (d : Drawing) → Grounded (stands d)
-grounded d = numbered_to_4 d (stands d) (stands_so d)

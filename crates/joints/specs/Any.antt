@@ -16,6 +16,7 @@ use Rattle.joints.specs.declared.any.AnySheet.{AnySheet}
 use Rattle.joints.specs.declared.any.AnySheet.TheVariants.{Web, Heel, Splice}
 use Rattle.joints.specs.declared.kinds.SheetJoint.{SheetJoint}
 
+-- a `AnyJoint`, since antt has no name for an alias
 abbrev pub AnyJoint : Type 0
 AnyJoint = SheetJoint AnySheet
 

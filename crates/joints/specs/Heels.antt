@@ -14,6 +14,7 @@ use Rattle.joints.specs.Verdict.{Check}
 use Rattle.joints.specs.declared.kinds.SheetJoint.{SheetJoint}
 use Rattle.joints.specs.declared.sheets.HeelSheet.{HeelSheet}
 
+-- a `HeelJoint`, since antt has no name for an alias
 abbrev pub HeelJoint : Type 0
 HeelJoint = SheetJoint HeelSheet
 

@@ -17,6 +17,7 @@ use Rattle.joints.specs.Verdict.{whole}
 use Rattle.joints.specs.declared.kinds.SheetJoint.{SheetJoint}
 use Rattle.joints.specs.declared.sheets.SpliceSheet.{SpliceSheet}
 
+-- a `SpliceJoint`, since antt has no name for an alias
 abbrev pub SpliceJoint : Type 0
 SpliceJoint = SheetJoint SpliceSheet
 

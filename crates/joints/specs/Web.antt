@@ -13,7 +13,7 @@ use Rattle.joints.specs.Verdict.{Check}
 use Rattle.joints.specs.declared.kinds.SheetJoint.{SheetJoint}
 use Rattle.joints.specs.declared.sheets.Sheet.{Sheet}
 
--- antt has no name for an alias
+-- a `WebJoint`, since antt has no name for an alias
 abbrev pub WebJoint : Type 0
 WebJoint = SheetJoint Sheet
 

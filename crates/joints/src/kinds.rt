@@ -33,7 +33,7 @@ pub trait Kind {
         ensures { result ≡ first_missed (asks self.now members.now cards.now (size plate) turning) (draws self.now members.now cards.now).members };
 }
 
-// Family k is card k, counted from 0.
+// A joint over the caller's members and cards; family k is card k, counted from 0.
 #[derive(Clone, Copy)]
 pub struct SheetJoint<'a, K> {
     sheet: K,

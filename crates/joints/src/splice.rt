@@ -1,5 +1,5 @@
 // Splice joints.
-ghost use Rattle.std.specs.Prelude.{◌≡◌, ◌≤◌};
+ghost use Rattle.std.specs.Prelude.{◌≡◌, true};
 ghost use Rattle.clauses.specs.Clauses.{laid};
 ghost use Rattle.clauses.specs.Within.{TrialWithin};
 ghost use Rattle.joints.specs.Splices.{splice_ranged, splice_clauses, splice_draws, splice_asks};
@@ -8,7 +8,7 @@ ghost use Rattle.joints.specs.Verdict.{first_missed};
 use super::grounds::{grounds, paired, truss_ranged};
 use super::kinds::{Kind, SheetJoint};
 use super::sheets::SpliceSheet;
-use super::trying::{Lawful, missed};
+use super::trying::{Lawful, OFF_HEEL, missed};
 use clauses::{Trial, extends, holds_moment, section};
 use plates::{Clause, Plate, Refusal, Turning, Verdict};
 use rules::{Card, Member};
@@ -16,9 +16,6 @@ use rules::{Card, Member};
 const MAX_MOMENT: u32 = 20_000_000;
 
 const MAX_WOOD: u32 = 400;
-
-// Off the heel the moment factor is 100.
-const FACTOR: u32 = 100;
 
 // Ground 1.
 fn splice_ranged(splice: &SpliceSheet) -> bool
@@ -31,8 +28,7 @@ fn splice_ranged(splice: &SpliceSheet) -> bool
 
 // J and K, of the first member.
 fn splice_clauses(splice: &SpliceSheet, trial: &Trial, lawful: &Lawful) -> Verdict
-    requires moment { splice.now.moment ≤ 20000000 }
-    requires wood { (1 ≤ splice.now.wood) × (splice.now.wood ≤ 400) }
+    requires ranged { splice_ranged splice.now ≡ true }
     requires trial { TrialWithin trial.now }
     ensures { result ≡ first_missed (splice_clauses splice.now (laid trial.now) lawful.now.own.now) lawful.now.own.now }
 {
@@ -71,7 +67,7 @@ impl Kind for SpliceSheet {
     ) -> Verdict {
         let conditions = self.sheet.conditions;
         let lawful = Lawful::new(&self.sheet, members, cards);
-        let verdict = lawful.tried(&conditions, FACTOR, plate, turning);
+        let verdict = lawful.tried(&conditions, OFF_HEEL, plate, turning);
         if !verdict.passes() {
             return verdict;
         }
@@ -82,7 +78,7 @@ impl Kind for SpliceSheet {
             self,
             &Trial {
                 conditions,
-                factor: FACTOR,
+                factor: OFF_HEEL,
                 card,
                 plate,
                 turning,

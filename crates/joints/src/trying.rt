@@ -18,6 +18,9 @@ use clauses::{Trial, allowed, meets, short_teeth};
 use plates::{Clause, Plate, Turning, Verdict};
 use rules::{Card, Conditions, Member};
 
+// Off the heel the moment factor is 100.
+pub const OFF_HEEL: u32 = 100;
+
 // What is asked of each member: the clauses D to I, in order.
 fn member_clauses() -> [Clause; 6]
     ensures { result ≡ member_clauses }
@@ -76,8 +79,8 @@ impl<'a> Lawful<'a> {
         requires { TrialWithin trial.now }
         ensures { result ≡ first_failing (meets clause (laid trial.now)) 1 self.now.own.now }
     {
-        let own = self.own;
-        own.iter()
+        self.own
+            .iter()
             .position(|m| !meets(clause, trial, m))
             .map(|i| 1 + i)
     }

@@ -4,12 +4,9 @@ ghost use Rattle.joints.specs.Web.{web_draws, web_asks};
 use super::grounds::{grounds, spanned, truss_ranged};
 use super::kinds::{Kind, SheetJoint};
 use super::sheets::Sheet;
-use super::trying::Lawful;
+use super::trying::{Lawful, OFF_HEEL};
 use plates::{Plate, Refusal, Turning, Verdict};
 use rules::{Card, Member};
-
-// Off the heel the moment factor is 100.
-const FACTOR: u32 = 100;
 
 pub type WebJoint<'a> = SheetJoint<'a, Sheet>;
 
@@ -30,6 +27,6 @@ impl Kind for Sheet {
         plate: Plate,
         turning: Turning,
     ) -> Verdict {
-        Lawful::new(self, members, cards).tried(&self.conditions, FACTOR, plate, turning)
+        Lawful::new(self, members, cards).tried(&self.conditions, OFF_HEEL, plate, turning)
     }
 }
