@@ -101,6 +101,7 @@ fn span_ranged(span: &Span) -> bool
     distances.contains(&span.low) && distances.contains(&span.high)
 }
 
+#[tactic(auto, unfolding(crate::specs::Grounds::member_ranged))]
 fn member_ranged(m: &Member) -> bool
     ensures { result ≡ member_ranged m.now }
 {
@@ -144,6 +145,7 @@ fn tooth_ranged(v: u32) -> bool
     (1..=MAX_TOOTH).contains(&v)
 }
 
+#[tactic(auto, unfolding(crate::specs::Grounds::card_ranged))]
 fn card_ranged(c: &Card) -> bool
     ensures { result ≡ card_ranged c.now }
 {
@@ -153,6 +155,7 @@ fn card_ranged(c: &Card) -> bool
 }
 
 // Ground 4: the field is not empty.
+#[tactic(auto, unfolding(crate::specs::Grounds::drawn))]
 fn drawn(m: &Member) -> bool
     ensures { result ≡ drawn m.now }
 {

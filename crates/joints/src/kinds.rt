@@ -45,6 +45,7 @@ impl<'a, K: Kind> SheetJoint<'a, K> {
     // Its standing is lawful or names the first fault of the first ground that is given; its
     // verdict on a plate is 'passes' where every clause is met, else the first clause missed and
     // its first member.
+    #[tactic(auto, using(crate::proofs::Standing::stands_so, crate::proofs::Verdicts::judges))]
     pub fn new(sheet: K, members: &'a [Member], cards: &'a [Card]) -> Self
         ensures sheet { result.sheet ≡ sheet }
         ensures members { result.members.now ≡ members.now }

@@ -58,6 +58,7 @@ impl Kind for SpliceSheet {
     }
 
     // A to I, then J and K.
+    #[tactic(auto, using(crate::proofs::Verdicts::missed_before, crate::proofs::Verdicts::passed_before))]
     fn verdict_over(
         &self,
         members: &[Member],
