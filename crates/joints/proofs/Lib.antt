@@ -1,4 +1,3 @@
-pub mod Firsts
 pub mod Scanning
 pub mod Standing
 pub mod Verdicts

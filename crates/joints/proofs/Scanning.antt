@@ -1,27 +1,37 @@
--- The scan for the first item that fails: its steps, and what its result means.
-use Rattle.std.proofs.Common.{◌≡◌, ℕ, ◌+◌, ◌<◌, ◌≤◌, Bool, true, false, cond, List, [], ◌∷◌, length, get_or, drop, Some, None, Option, sym, refl, ap, ◌∙◌, add-zero, add_assoc, arith}
-use Rattle.std.specs.List.{AllByRecursion}
-use Rattle.std.proofs.lemmas.List.{at_drop_more, at_drop_all}
+-- The scan for the first item that fails: how `position` finds it, and what its result means.
+use Rattle.std.proofs.Common.{◌≡◌, ℕ, zero, suc, ◌+◌, ◌<◌, Bool, true, false, cond, List, [], ◌∷◌, length, Some, None, Option, ◌&&◌, slice_index, sym, refl, ap, ◌∙◌, add-zero, arith}
+use denote.Param.Members.{Mut}
+use Rattle.std.proofs.lemmas.Iterator.{YieldsList, IsFirst-from_position}
+use Rattle.std.specs.Fn.{Called}
+use Rattle.std.specs.Iterator.{YieldsThen}
+use Rattle.std.specs.List.{AllByRecursion, AllWithin, FoldsTo, HoldsAt}
+use Rattle.std.specs.Bool.{MatchBool}
+use Rattle.std.specs.Option.{MatchOption, option_map}
+use Rattle.std.proofs.lemmas.Grind.{common_steps}
 use Rattle.std.proofs.lemmas.Bool.{cond-true, cond-false}
 use Rattle.joints.specs.Scan.{first_failing, FirstFailing}
 
-module _ {T : Type 0} (p : T → Bool) (start : ℕ) (xs : List T) where
-  ahead : (i : ℕ) (x : T) → i < length xs → x ≡ get_or xs i x → first_failing p (start + i) (drop i xs) ≡ cond (p x) (first_failing p (start + i + 1) (drop (i + 1) xs)) (Some (start + i))
-  ahead i x h e = at_drop_more (first_failing p (start + i)) xs i x h ∙ ap (λ y. cond (p y) (first_failing p (start + i + 1) (drop (i + 1) xs)) (Some (start + i))) (sym e)
+-- the first item that fails, where `position` looked for it from 0 on
+first_from : {T : Type 0} (p : T → Bool) (start : ℕ) (xs : List T) (r : Option ℕ)
+    → MatchOption r (AllWithin (λ x. p x ≡ true) xs 0 (length xs)) (λ i. (i < length xs) × HoldsAt (λ x. p x ≡ false) xs i × AllWithin (λ x. p x ≡ true) xs 0 i)
+    → option_map (λ i. start + i) r ≡ first_failing p start xs
+first_from p start [] None h = refl
+first_from p start [] (Some i) h = absurd (omega (arith, h.0))
+first_from p start (x ∷ xs) None h =
+    first_from p (start + 1) xs None (λ k d l m. h (suc k) d (omega arith) (omega arith)) ∙ sym (cond-true (p x) _ _ (h 0 x (omega arith) (omega arith)))
+first_from p start (x ∷ xs) (Some zero) h = ap Some (add-zero start) ∙ sym (cond-false (p x) _ _ (h.1 x))
+first_from p start (x ∷ xs) (Some (suc i)) h =
+    let inside : i < length xs = omega (arith, h.0) in
+    let here : p x ≡ true = h.2 0 x (omega arith) (omega arith) in
+    let later : option_map (λ i. (start + 1) + i) (Some i) ≡ first_failing p (start + 1) xs = first_from p (start + 1) xs (Some i) (inside, λ d. h.1 d, λ k d l m. h.2 (suc k) d (omega arith) (omega arith)) in
+    ap Some (omega arith) ∙ later ∙ sym (cond-true (p x) _ _ here)
 
-  pub passes_on : (i : ℕ) (x : T) → i < length xs → x ≡ get_or xs i x → p x ≡ true → first_failing p (start + i) (drop i xs) ≡ first_failing p (start + (i + 1)) (drop (i + 1) xs)
-  passes_on i x h e t = ahead i x h e ∙ cond-true (p x) _ _ t ∙ ap (λ n. first_failing p n (drop (i + 1) xs)) (add_assoc start i 1)
-
-  pub fails_here : (i : ℕ) (x : T) → i < length xs → x ≡ get_or xs i x → p x ≡ false → first_failing p (start + i) (drop i xs) ≡ Some (start + i)
-  fails_here i x h e t = ahead i x h e ∙ cond-false (p x) _ _ t
-
-  pub none_left : (i : ℕ) → length xs ≤ i → first_failing p (start + i) (drop i xs) ≡ None
-  none_left i h = at_drop_all (first_failing p (start + i)) xs i h
-
--- what holds of everything holds of each item
-pub all_of : {T : Type 0} (P : T → Type 0) → ((x : T) → P x) → (xs : List T) → AllByRecursion P xs
-all_of P h [] = tt
-all_of P h (x ∷ xs) = (h x, all_of P h xs)
+-- the same, by what a chain gives and what the closure tells of each item
+pub found_at : {S A B F : Type 0} {steps : S → Option A → S → Type 0} {v : A → B} {g : Mut F (A × Unit {0}) Bool} {s : S} {all : List B} (p : B → Bool) (start : ℕ) (u : S) (f : F) (r : Option ℕ)
+    → (xs : List A) × (o : Option A) × (j : F) × YieldsThen steps s xs o u × FoldsTo (λ a x b. Called g a (x, tt) false b) f xs j × MatchOption o (r ≡ None) (λ x. (r ≡ Some (length xs)) × ((h : F) × Called g j (x, tt) true h))
+    → YieldsList steps v s all → ((x : A) (q : F) → Called g f (x, tt) true q → p (v x) ≡ false) → ((x : A) (q : F) → Called g f (x, tt) false q → (q ≡ f) × (p (v x) ≡ true))
+    → option_map (λ i. start + i) r ≡ first_failing p start all
+found_at {all} p start u f r ran road found passed = first_from p start all r (IsFirst-from_position u f r (λ x. p x ≡ false) (λ x. p x ≡ true) ran road found passed)
 
 -- what the result means
 abbrev pub Means : {T : Type 0} → (T → Bool) → ℕ → List T → Option ℕ → Type 0
@@ -47,3 +57,28 @@ first_one p start x xs false t r h = record { before = []; item = x; after = xs;
 pub means : {T : Type 0} (p : T → Bool) (start : ℕ) (xs : List T) → Means p start xs (first_failing p start xs)
 means p start [] = tt
 means p start (x ∷ xs) = first_one p start x xs (p x) refl _ (means p (start + 1) xs)
+
+-- what `all` tells of a list of six
+module _ (p : ℕ → Bool) (v : List ℕ) where
+  abbrev AllSix : Bool
+  AllSix = p (slice_index v 0) && (p (slice_index v 1) && (p (slice_index v 2) && (p (slice_index v 3) && (p (slice_index v 4) && p (slice_index v 5)))))
+
+  fails_at : (k : ℕ) → k < 6 → p (slice_index v k) ≡ false → AllSix ≡ false
+  fails_at zero h e = grind (arith, common_steps)
+  fails_at (suc zero) h e = grind (arith, common_steps)
+  fails_at (suc (suc zero)) h e = grind (arith, common_steps)
+  fails_at (suc (suc (suc zero))) h e = grind (arith, common_steps)
+  fails_at (suc (suc (suc (suc zero)))) h e = grind (arith, common_steps)
+  fails_at (suc (suc (suc (suc (suc zero))))) h e = grind (arith, common_steps)
+  fails_at (suc (suc (suc (suc (suc (suc k)))))) h e = absurd (omega arith)
+
+  pub all_six : (r : Bool) → length v ≡ 6 → MatchBool r (AllWithin (λ x. p x ≡ true) v 0 (length v)) ((k : ℕ) × (k < length v) × HoldsAt (λ x. p x ≡ false) v k) → r ≡ AllSix
+  all_six false n h = sym (fails_at h.0 (omega (arith, h.1)) (h.2 0))
+  all_six true n h =
+      let a = h 0 0 (omega arith) (omega arith) in
+      let b = h 1 0 (omega arith) (omega arith) in
+      let c = h 2 0 (omega arith) (omega arith) in
+      let d = h 3 0 (omega arith) (omega arith) in
+      let e = h 4 0 (omega arith) (omega arith) in
+      let f = h 5 0 (omega arith) (omega arith) in
+      grind (arith, common_steps, a, b, c, d, e, f)

@@ -1,44 +1,19 @@
 -- The steps of trying a plate, and what its verdict means.
-use Rattle.std.proofs.Common.{◌≡◌, ℕ, zero, suc, ◌+◌, ◌<◌, ◌≤◌, Bool, true, false, cond, List, [], ◌∷◌, ◌++◌, length, get_or, drop, Some, None, Option, refl, ap, ◌∙◌, le_of_suc-le-suc, not-suc-le-zero, arith}
-use Rattle.rules.specs.declared.terms.Card.{Card}
+use Rattle.std.proofs.Common.{◌≡◌, ℕ, Bool, true, false, cond, List, [], ◌∷◌, ◌++◌, Some, None, Option, refl, ap, ◌∙◌, arith}
 use Rattle.plates.specs.Verdicts.{passes}
 use Rattle.plates.specs.declared.verdicts.Clause.{Clause}
 use Rattle.plates.specs.declared.verdicts.Verdict.{Verdict}
 use Rattle.plates.specs.declared.verdicts.Verdict.TheVariants.{Passes, Misses}
-use Rattle.clauses.specs.Clauses.{Laid, meets}
+use Rattle.clauses.specs.Clauses.{Laid}
 use Rattle.rules.specs.declared.terms.Member.{Member}
-use Rattle.std.proofs.lemmas.List.{at_drop_more, at_drop_all}
 use Rattle.joints.specs.Scan.{first_failing}
 use Rattle.joints.specs.Verdict.{Check, whole, each, Met, Missed, MissesFirst, Judges, missed_at, first_missed}
 use Rattle.joints.proofs.Scanning.{Means, means}
-use Rattle.joints.specs.Checks.{card_of, each_of}
-
-pub card_there : (cs : List Card) (k : ℕ) (d : Card) → k < length cs → card_of cs k ≡ Some (get_or cs k d)
-card_there [] k d h = absurd (not-suc-le-zero h)
-card_there (c ∷ cs) zero d h = refl
-card_there (c ∷ cs) (suc k) d h = card_there cs k d (le_of_suc-le-suc h)
-
-pub card_beyond : (cs : List Card) (k : ℕ) → length cs ≤ k → card_of cs k ≡ None
-card_beyond [] k h = refl
-card_beyond (c ∷ cs) zero h = absurd (not-suc-le-zero h)
-card_beyond (c ∷ cs) (suc k) h = card_beyond cs k (le_of_suc-le-suc h)
+use Rattle.joints.specs.Checks.{each_of}
 
 -- the verdict of member clauses over the members
 abbrev pub over : Laid → List Member → List Clause → Verdict
 over l ms cs = first_missed (each_of cs l) ms
-
-module _ (l : Laid) (ms : List Member) (cs : List Clause) where
-  ahead : (i : ℕ) (d : Clause) → i < length cs → over l ms (drop i cs) ≡ missed_at (get_or cs i d) (first_failing (meets (get_or cs i d) l) 1 ms) (over l ms (drop (i + 1) cs))
-  ahead i d h = at_drop_more (over l ms) cs i d h
-
-  pub clause_met : (i : ℕ) (d : Clause) → i < length cs → first_failing (meets (get_or cs i d) l) 1 ms ≡ None → over l ms (drop i cs) ≡ over l ms (drop (i + 1) cs)
-  clause_met i d h e = ahead i d h ∙ ap (λ r. missed_at (get_or cs i d) r (over l ms (drop (i + 1) cs))) e
-
-  pub clause_missed : (i : ℕ) (d : Clause) (k : ℕ) → i < length cs → first_failing (meets (get_or cs i d) l) 1 ms ≡ Some k → over l ms (drop i cs) ≡ Misses (get_or cs i d) k
-  clause_missed i d k h e = ahead i d h ∙ ap (λ r. missed_at (get_or cs i d) r (over l ms (drop (i + 1) cs))) e
-
-  pub all_met : (i : ℕ) → length cs ≤ i → over l ms (drop i cs) ≡ Passes
-  all_met i h = at_drop_all (over l ms) cs i h
 
 -- a check that is met goes before the verdict of the others
 met_first : (ms : List Member) (k : Check) (ks : List Check) → Met ms k → (v : Verdict) → Judges ks ms v → Judges (k ∷ ks) ms v

@@ -1,6 +1,5 @@
 -- Numbers that passed the tests of their ranges lie within them.
-use Rattle.std.proofs.Common.{◌≡◌, ℕ, zero, suc, ◌<◌, ◌≤◌, true, List, [], ◌∷◌, get_or, Some, subst, arith}
-use Rattle.std.specs.List.{AllByRecursion}
+use Rattle.std.proofs.Common.{◌≡◌, ℕ, zero, suc, ◌<◌, ◌≤◌, true, List, get_or, arith}
 use Rattle.std.proofs.lemmas.Bool.{and_parts}
 use Rattle.std.proofs.lemmas.Int.{ints}
 use Rattle.std.proofs.lemmas.Bool.Decides.{nat_tests}
@@ -10,7 +9,6 @@ use Rattle.rules.specs.declared.terms.Member.{Member}
 use Rattle.rules.specs.declared.terms.Span.{Span}
 use Rattle.rules.specs.Ranges.{LateralWithin, CardWithin, SpanWithin, MemberWithin}
 use Rattle.joints.specs.Grounds.{within, loads_ranged, angles_ranged, depth_listed, span_ranged, member_ranged, lateral_ranged, shear_ranged, card_ranged}
-use Rattle.joints.specs.Checks.{card_of}
 
 up_to : (low high n : ℕ) → within low high n ≡ true → n ≤ high
 up_to low high n t = grind (arith, nat_tests)
@@ -78,9 +76,3 @@ card_within c t =
       shear_high = shear_within _ shear.0;
       tooth_high = up_to 1 40 _ shear.1;
     }
-
--- the card of a family is one of the cards
-pub card_found : (P : Card → Type 0) (cs : List Card) (k : ℕ) (c : Card) → AllByRecursion P cs → card_of cs k ≡ Some c → P c
-card_found P [] k c h e = let z : ◌≡◌ {A = ℕ} 0 1 = cc in absurd (omega arith)
-card_found P (d ∷ cs) zero c h e = let same : d ≡ c = cc in subst P same h.0
-card_found P (d ∷ cs) (suc k) c h e = card_found P cs k c h.1 e

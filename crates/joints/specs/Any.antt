@@ -1,40 +1,43 @@
 -- Joints of any kind: each is drawn, and its clauses are asked, as its kind has it.
 use Rattle.std.specs.Prelude.{List, Result}
-use Rattle.std.specs.Borrow.{Bor}
 use Rattle.plates.specs.Size.{Size}
 use Rattle.plates.specs.declared.refusals.Refusal.{Refusal}
 use Rattle.plates.specs.declared.turnings.Turning.{Turning}
 use Rattle.plates.specs.declared.verdicts.Verdict.{Verdict}
 use Rattle.rules.specs.declared.terms.Card.{Card}
 use Rattle.rules.specs.declared.terms.Member.{Member}
-use Rattle.joints.specs.Grounds.{Drawing, stands}
-use Rattle.joints.specs.Heels.{heel_drawing, heel_checks}
-use Rattle.joints.specs.Splices.{splice_drawing, splice_checks}
-use Rattle.joints.specs.Verdict.{Check, first_missed}
-use Rattle.joints.specs.Web.{web_drawing, web_checks}
-use Rattle.joints.specs.declared.any.AnyJoint.{AnyJoint}
+use Rattle.joints.specs.Grounds.{Drawing}
+use Rattle.joints.specs.Heels.{heel_draws, heel_asks}
+use Rattle.joints.specs.Joints.{sheet_drawing, sheet_standing, sheet_checks, sheet_verdict}
+use Rattle.joints.specs.Splices.{splice_draws, splice_asks}
+use Rattle.joints.specs.Verdict.{Check}
+use Rattle.joints.specs.Web.{web_draws, web_asks}
 use Rattle.joints.specs.declared.any.AnySheet.{AnySheet}
 use Rattle.joints.specs.declared.any.AnySheet.TheVariants.{Web, Heel, Splice}
+use Rattle.joints.specs.declared.kinds.SheetJoint.{SheetJoint}
 
-module _ (ms : Bor (List Member)) (cs : Bor (List Card)) where
-  abbrev pub sheet_drawing : AnySheet → Drawing
-  sheet_drawing (Web s) = web_drawing (record { sheet = s; members = ms; cards = cs })
-  sheet_drawing (Heel s) = heel_drawing (record { heel = s; members = ms; cards = cs })
-  sheet_drawing (Splice s) = splice_drawing (record { splice = s; members = ms; cards = cs })
+-- a `AnyJoint`, since antt has no name for an alias
+abbrev pub AnyJoint : Type 0
+AnyJoint = SheetJoint AnySheet
 
-  abbrev pub sheet_checks : AnySheet → Size → Turning → List Check
-  sheet_checks (Web s) = web_checks (record { sheet = s; members = ms; cards = cs })
-  sheet_checks (Heel s) = heel_checks (record { heel = s; members = ms; cards = cs })
-  sheet_checks (Splice s) = splice_checks (record { splice = s; members = ms; cards = cs })
+abbrev pub any_draws : AnySheet → List Member → List Card → Drawing
+any_draws (Web s) ms cs = web_draws s ms cs
+any_draws (Heel s) ms cs = heel_draws s ms cs
+any_draws (Splice s) ms cs = splice_draws s ms cs
+
+abbrev pub any_asks : AnySheet → List Member → List Card → Size → Turning → List Check
+any_asks (Web s) ms cs p t = web_asks s ms cs p t
+any_asks (Heel s) ms cs p t = heel_asks s ms cs p t
+any_asks (Splice s) ms cs p t = splice_asks s ms cs p t
 
 abbrev pub any_drawing : AnyJoint → Drawing
-any_drawing j = sheet_drawing j.members j.cards j.sheet
+any_drawing j = sheet_drawing any_draws j
 
 abbrev pub any_standing : AnyJoint → Result (Unit {0}) Refusal
-any_standing j = stands (any_drawing j)
+any_standing j = sheet_standing any_draws j
 
 abbrev pub any_checks : AnyJoint → Size → Turning → List Check
-any_checks j s t = sheet_checks j.members j.cards j.sheet s t
+any_checks j = sheet_checks any_asks j
 
 abbrev pub any_verdict : AnyJoint → Size → Turning → Verdict
-any_verdict j s t = first_missed (any_checks j s t) (any_drawing j).members
+any_verdict j = sheet_verdict any_draws any_asks j

@@ -1,5 +1,5 @@
 -- The clauses that joints of every kind are tried by.
-use Rattle.std.specs.Prelude.{ℕ, zero, suc, true, false, List, [], ◌∷◌, Some, None, Option}
+use Rattle.std.specs.Prelude.{ℕ, true, false, List, [], ◌∷◌, Some, None, Option, slice_get}
 use Rattle.plates.specs.Size.{Size}
 use Rattle.plates.specs.declared.turnings.Turning.{Turning}
 use Rattle.plates.specs.declared.verdicts.Clause.{Clause}
@@ -11,9 +11,7 @@ use Rattle.joints.specs.Verdict.{Check, whole, each}
 
 -- the family's card
 abbrev pub card_of : List Card → ℕ → Option Card
-card_of [] k = None
-card_of (c ∷ cs) zero = Some c
-card_of (c ∷ cs) (suc k) = card_of cs k
+card_of cs k = slice_get cs k
 
 -- what the clauses D to I ask of each member
 abbrev pub member_clauses : List Clause

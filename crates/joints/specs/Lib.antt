@@ -1,6 +1,7 @@
 pub mod Scan
 pub mod Grounds
 pub mod Verdict
+pub mod Joints
 pub mod Any
 pub mod Checks
 pub mod Web

@@ -4,26 +4,40 @@ use Rattle.plates.specs.Size.{Size}
 use Rattle.plates.specs.declared.refusals.Refusal.{Refusal}
 use Rattle.plates.specs.declared.turnings.Turning.{Turning}
 use Rattle.plates.specs.declared.verdicts.Verdict.{Verdict}
+use Rattle.rules.specs.declared.terms.Card.{Card}
+use Rattle.rules.specs.declared.terms.Member.{Member}
 use Rattle.joints.specs.Checks.{card_of, checks}
-use Rattle.joints.specs.Verdict.{Check, first_missed}
-use Rattle.joints.specs.Grounds.{truss_ranged, spanned, own, read_cards, Drawing, stands}
-use Rattle.joints.specs.declared.sheets.WebJoint.{WebJoint}
+use Rattle.joints.specs.Grounds.{truss_ranged, spanned, own, read_cards, Drawing}
+use Rattle.joints.specs.Joints.{sheet_drawing, sheet_standing, sheet_checks, sheet_verdict}
+use Rattle.joints.specs.Verdict.{Check}
+use Rattle.joints.specs.declared.kinds.SheetJoint.{SheetJoint}
+use Rattle.joints.specs.declared.sheets.Sheet.{Sheet}
 
-abbrev pub web_drawing : WebJoint → Drawing
-web_drawing j = let s = j.sheet in record {
+-- a `WebJoint`, since antt has no name for an alias
+abbrev pub WebJoint : Type 0
+WebJoint = SheetJoint Sheet
+
+abbrev pub web_draws : Sheet → List Member → List Card → Drawing
+web_draws s ms cs = record {
   numbers = truss_ranged s;
-  span = spanned s (length j.members.now);
+  span = spanned s (length ms);
   first = s.first;
-  members = own s j.members.now;
-  cards = read_cards j.cards.now;
+  members = own s ms;
+  cards = read_cards cs;
 }
 
-abbrev pub web_standing : WebJoint → Result (Unit {0}) Refusal
-web_standing j = stands (web_drawing j)
-
 -- off the heel the moment factor is 100
+abbrev pub web_asks : Sheet → List Member → List Card → Size → Turning → List Check
+web_asks s ms cs p t = checks s.conditions 100 (card_of (read_cards cs) p.family) p t
+
+abbrev pub web_drawing : WebJoint → Drawing
+web_drawing j = sheet_drawing web_draws j
+
+abbrev pub web_standing : WebJoint → Result (Unit {0}) Refusal
+web_standing j = sheet_standing web_draws j
+
 abbrev pub web_checks : WebJoint → Size → Turning → List Check
-web_checks j s t = checks j.sheet.conditions 100 (card_of (web_drawing j).cards s.family) s t
+web_checks j = sheet_checks web_asks j
 
 abbrev pub web_verdict : WebJoint → Size → Turning → Verdict
-web_verdict j s t = first_missed (web_checks j s t) (web_drawing j).members
+web_verdict j = sheet_verdict web_draws web_asks j

@@ -1,13 +1,9 @@
 // A joint of any kind, by its sheet: for lists in which the kinds mix.
-ghost use Rattle.std.specs.Prelude.{◌≡◌};
-ghost use Rattle.plates.specs.Size.{Size};
-ghost use Rattle.plates.specs.declared.turnings.Turning.{Turning};
-ghost use Rattle.joints.specs.Any.{any_drawing, any_standing, any_checks, any_verdict};
-ghost use Rattle.joints.specs.Grounds.{Stands};
-ghost use Rattle.joints.specs.Verdict.{Judges};
+ghost use Rattle.joints.specs.Any.{any_draws, any_asks};
 
-use super::sheets::{HeelJoint, HeelSheet, Sheet, SpliceJoint, SpliceSheet, WebJoint};
-use plates::{Joint, Plate, Refusal, Turning, Verdict};
+use super::kinds::{Kind, SheetJoint};
+use super::sheets::{HeelSheet, Sheet, SpliceSheet};
+use plates::{Plate, Refusal, Turning, Verdict};
 use rules::{Card, Member};
 
 #[derive(Clone, Copy)]
@@ -17,53 +13,33 @@ pub enum AnySheet {
     Splice(SpliceSheet),
 }
 
-// The joint of a sheet over the caller's members and cards.
-#[derive(Clone, Copy)]
-pub struct AnyJoint<'a> {
-    sheet: AnySheet,
-    members: &'a [Member],
-    cards: &'a [Card],
-}
+// It stands and judges as the joint of its kind does.
+pub type AnyJoint<'a> = SheetJoint<'a, AnySheet>;
 
-impl<'a> AnyJoint<'a> {
-    // It stands and judges as the joint of its kind does.
-    pub fn new(sheet: AnySheet, members: &'a [Member], cards: &'a [Card]) -> Self
-        ensures sheet { result.sheet ≡ sheet }
-        ensures members { result.members.now ≡ members.now }
-        ensures cards { result.cards.now ≡ cards.now }
-        ensures stands { Stands (any_drawing result) (any_standing result) }
-        ensures judges { (s : Size) (t : Turning) → Judges (any_checks result s t) (any_drawing result).members (any_verdict result s t) }
-    {
-        AnyJoint {
-            sheet,
-            members,
-            cards,
-        }
-    }
-}
+impl Kind for AnySheet {
+    ghost draws = { any_draws };
 
-impl Joint for AnyJoint<'_> {
-    ghost standing = { any_standing };
+    ghost asks = { any_asks };
 
-    ghost verdict = { any_verdict };
-
-    fn standing(&self) -> Result<(), Refusal> {
-        let members = self.members;
-        let cards = self.cards;
-        match self.sheet {
-            AnySheet::Web(s) => WebJoint::new(s, members, cards).standing(),
-            AnySheet::Heel(s) => HeelJoint::new(s, members, cards).standing(),
-            AnySheet::Splice(s) => SpliceJoint::new(s, members, cards).standing(),
+    fn standing_over(&self, members: &[Member], cards: &[Card]) -> Result<(), Refusal> {
+        match self {
+            AnySheet::Web(s) => s.standing_over(members, cards),
+            AnySheet::Heel(s) => s.standing_over(members, cards),
+            AnySheet::Splice(s) => s.standing_over(members, cards),
         }
     }
 
-    fn verdict(&self, plate: Plate, turning: Turning) -> Verdict {
-        let members = self.members;
-        let cards = self.cards;
-        match self.sheet {
-            AnySheet::Web(s) => WebJoint::new(s, members, cards).verdict(plate, turning),
-            AnySheet::Heel(s) => HeelJoint::new(s, members, cards).verdict(plate, turning),
-            AnySheet::Splice(s) => SpliceJoint::new(s, members, cards).verdict(plate, turning),
+    fn verdict_over(
+        &self,
+        members: &[Member],
+        cards: &[Card],
+        plate: Plate,
+        turning: Turning,
+    ) -> Verdict {
+        match self {
+            AnySheet::Web(s) => s.verdict_over(members, cards, plate, turning),
+            AnySheet::Heel(s) => s.verdict_over(members, cards, plate, turning),
+            AnySheet::Splice(s) => s.verdict_over(members, cards, plate, turning),
         }
     }
 }

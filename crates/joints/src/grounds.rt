@@ -1,10 +1,7 @@
 // The grounds on which a joint is turned away, in their order.
-ghost use Rattle.std.specs.Prelude.{◌≡◌, ◌+◌, ◌^◌, ◌<◌, ◌≤◌, true, length, if◌then◌else◌, Ok, Err};
-ghost use Rattle.plates.specs.declared.refusals.Refusal.TheVariants.{SheetNumber, MemberSpan, MemberNumber, CardNumber, EmptyField};
-ghost use Rattle.joints.specs.Scan.{first_failing};
-ghost use Rattle.joints.specs.Grounds.{within, truss_ranged, listed, spanned, paired, own, loads_ranged, angles_ranged, depth_listed, span_ranged, member_ranged, lateral_ranged, shear_ranged, card_ranged, read_cards, drawn, unless_at, numbers_stand};
+ghost use Rattle.std.specs.Prelude.{◌≡◌, ◌+◌, ◌≤◌, true, length, if◌then◌else◌, Ok, Err};
+ghost use Rattle.joints.specs.Grounds.{within, truss_ranged, listed, spanned, paired, own, loads_ranged, angles_ranged, depth_listed, span_ranged, member_ranged, lateral_ranged, shear_ranged, card_ranged, read_cards, drawn, numbers_stand, stands};
 
-use super::scan::{Test, first_failing};
 use super::sheets::Sheet;
 use plates::Refusal;
 use rules::{Card, Lateral, Member, Span};
@@ -17,6 +14,8 @@ const MAX_LOAD: u32 = 200_000;
 
 const MAX_DISTANCE: i32 = 1000;
 
+const DEPTHS: [u32; 7] = [64, 89, 114, 140, 184, 235, 286];
+
 const MAX_STEEL: u32 = 2000;
 
 const MIN_TOOTH_VALUE: u32 = 10;
@@ -28,7 +27,7 @@ const MAX_TOOTH: u32 = 40;
 const FAMILIES: usize = 16;
 
 // A ground that is given, where its test fails.
-pub fn ground(right: bool, refusal: Refusal) -> Result<(), Refusal>
+fn ground(right: bool, refusal: Refusal) -> Result<(), Refusal>
     ensures { result ≡ (if right then Ok tt else Err refusal) }
 {
     if right { Ok(()) } else { Err(refusal) }
@@ -38,8 +37,7 @@ pub fn ground(right: bool, refusal: Refusal) -> Result<(), Refusal>
 pub fn truss_ranged(sheet: &Sheet) -> bool
     ensures { result ≡ truss_ranged sheet.now }
 {
-    let truss = sheet.conditions.truss;
-    1 <= truss && truss <= MAX_TRUSS
+    (1..=MAX_TRUSS).contains(&sheet.conditions.truss)
 }
 
 // Ground 2: the members lie in the caller's list.
@@ -53,7 +51,7 @@ fn listed(sheet: &Sheet, list: usize) -> bool
 pub fn spanned(sheet: &Sheet, list: usize) -> bool
     ensures { result ≡ spanned sheet.now list }
 {
-    1 <= sheet.count && sheet.count <= MAX_MEMBERS && listed(sheet, list)
+    (1..=MAX_MEMBERS).contains(&sheet.count) && listed(sheet, list)
 }
 
 // Ground 2 for a splice: and they number two.
@@ -75,11 +73,7 @@ pub fn own<'a>(sheet: &Sheet, members: &'a [Member]) -> &'a [Member]
 pub fn read_cards(cards: &[Card]) -> &[Card]
     ensures { result.now ≡ read_cards cards.now }
 {
-    if cards.len() > FAMILIES {
-        &cards[0..FAMILIES]
-    } else {
-        cards
-    }
+    &cards[..cards.len().min(FAMILIES)]
 }
 
 fn loads_ranged(m: &Member) -> bool
@@ -97,24 +91,17 @@ fn angles_ranged(m: &Member) -> bool
 fn depth_listed(depth: u32) -> bool
     ensures { result ≡ depth_listed depth }
 {
-    depth == 64
-        || depth == 89
-        || depth == 114
-        || depth == 140
-        || depth == 184
-        || depth == 235
-        || depth == 286
+    DEPTHS.contains(&depth)
 }
 
 fn span_ranged(span: &Span) -> bool
     ensures { result ≡ span_ranged span.now }
 {
-    -MAX_DISTANCE <= span.low
-        && span.low <= MAX_DISTANCE
-        && -MAX_DISTANCE <= span.high
-        && span.high <= MAX_DISTANCE
+    let distances = -MAX_DISTANCE..=MAX_DISTANCE;
+    distances.contains(&span.low) && distances.contains(&span.high)
 }
 
+#[tactic(auto, unfolding(crate::specs::Grounds::member_ranged))]
 fn member_ranged(m: &Member) -> bool
     ensures { result ≡ member_ranged m.now }
 {
@@ -137,118 +124,76 @@ fn lateral_ranged(v: &Lateral) -> bool
 fn tooth_value_ranged(v: u32) -> bool
     ensures { result ≡ within 10 20000 v }
 {
-    MIN_TOOTH_VALUE <= v && v <= MAX_TOOTH_VALUE
+    (MIN_TOOTH_VALUE..=MAX_TOOTH_VALUE).contains(&v)
 }
 
 fn steel_ranged(v: u32) -> bool
     ensures { result ≡ within 1 2000 v }
 {
-    1 <= v && v <= MAX_STEEL
+    (1..=MAX_STEEL).contains(&v)
 }
 
 fn shear_ranged(v: [u32; 6]) -> bool
     ensures { result ≡ shear_ranged v }
 {
-    let [a, b, c, d, e, f] = v;
-    steel_ranged(a)
-        && steel_ranged(b)
-        && steel_ranged(c)
-        && steel_ranged(d)
-        && steel_ranged(e)
-        && steel_ranged(f)
+    v.iter().all(|x| steel_ranged(*x))
 }
 
+fn tooth_ranged(v: u32) -> bool
+    ensures { result ≡ within 1 40 v }
+{
+    (1..=MAX_TOOTH).contains(&v)
+}
+
+#[tactic(auto, unfolding(crate::specs::Grounds::card_ranged))]
 fn card_ranged(c: &Card) -> bool
     ensures { result ≡ card_ranged c.now }
 {
     let lateral = lateral_ranged(&c.teeth) && lateral_ranged(&c.slip);
     let tension = steel_ranged(c.t0) && steel_ranged(c.t90);
-    lateral && tension && shear_ranged(c.shear) && 1 <= c.tooth && c.tooth <= MAX_TOOTH
+    lateral && tension && shear_ranged(c.shear) && tooth_ranged(c.tooth)
 }
 
 // Ground 4: the field is not empty.
+#[tactic(auto, unfolding(crate::specs::Grounds::drawn))]
 fn drawn(m: &Member) -> bool
     ensures { result ≡ drawn m.now }
 {
     m.field.x.low < m.field.x.high && m.field.y.low < m.field.y.high
 }
 
-// The tests that the grounds make of each member or card.
-struct MemberRanged;
-
-struct CardRanged;
-
-struct FieldDrawn;
-
-impl Test<Member> for MemberRanged {
-    ghost ready = { λ _ _. Unit {0} };
-
-    ghost holds = { λ _ m. member_ranged m };
-
-    fn holds(&self, item: &Member) -> bool {
-        member_ranged(item)
-    }
-}
-
-impl Test<Card> for CardRanged {
-    ghost ready = { λ _ _. Unit {0} };
-
-    ghost holds = { λ _ c. card_ranged c };
-
-    fn holds(&self, item: &Card) -> bool {
-        card_ranged(item)
-    }
-}
-
-impl Test<Member> for FieldDrawn {
-    ghost ready = { λ _ _. Unit {0} };
-
-    ghost holds = { λ _ m. drawn m };
-
-    fn holds(&self, item: &Member) -> bool {
-        drawn(item)
-    }
-}
-
-// Ground 3: the numbers of each member.
-fn members_stand(first: usize, own: &[Member]) -> Result<(), Refusal>
-    requires { first + length own.now < 2 ^ 64 }
-    ensures { result ≡ unless_at (first_failing member_ranged first own.now) MemberNumber (Ok tt) }
-{
-    match first_failing(&MemberRanged, first, own) {
-        Some(index) => Err(Refusal::MemberNumber { index }),
-        None => Ok(()),
-    }
-}
-
-// Ground 3: the numbers of each card.
-fn cards_stand(cards: &[Card]) -> Result<(), Refusal>
-    ensures { result ≡ unless_at (first_failing card_ranged 0 cards.now) CardNumber (Ok tt) }
-{
-    match first_failing(&CardRanged, 0, cards) {
-        Some(index) => Err(Refusal::CardNumber { index }),
-        None => Ok(()),
-    }
-}
-
-// Ground 4: the field of each member.
-fn fields_stand(first: usize, own: &[Member]) -> Result<(), Refusal>
-    requires { first + length own.now < 2 ^ 64 }
-    ensures { result ≡ unless_at (first_failing drawn first own.now) EmptyField (Ok tt) }
-{
-    match first_failing(&FieldDrawn, first, own) {
-        Some(index) => Err(Refusal::EmptyField { index }),
-        None => Ok(()),
-    }
-}
-
-// Grounds 3 and 4, in their order.
-pub fn numbers_stand(sheet: &Sheet, members: &[Member], cards: &[Card]) -> Result<(), Refusal>
+// Grounds 3 and 4, in their order: the numbers of each member and of each card, and the field of
+// each member.
+fn numbers_stand(sheet: &Sheet, members: &[Member], cards: &[Card]) -> Result<(), Refusal>
     requires { sheet.now.first + sheet.now.count ≤ length members.now }
     ensures { result ≡ numbers_stand sheet.now.first (own sheet.now members.now) (read_cards cards.now) }
 {
+    let first = sheet.first;
     let own = own(sheet, members);
-    members_stand(sheet.first, own)?;
-    cards_stand(read_cards(cards))?;
-    fields_stand(sheet.first, own)
+    if let Some(i) = own.iter().position(|m| !member_ranged(m)) {
+        return Err(Refusal::MemberNumber { index: first + i });
+    }
+    if let Some(index) = read_cards(cards).iter().position(|c| !card_ranged(c)) {
+        return Err(Refusal::CardNumber { index });
+    }
+    if let Some(i) = own.iter().position(|m| !drawn(m)) {
+        return Err(Refusal::EmptyField { index: first + i });
+    }
+    Ok(())
+}
+
+// The grounds in their order: `right` tells of the sheet's own numbers, `spans` of its members.
+pub fn grounds(
+    right: bool,
+    spans: bool,
+    sheet: &Sheet,
+    members: &[Member],
+    cards: &[Card],
+) -> Result<(), Refusal>
+    requires { spans ≡ true → sheet.now.first + sheet.now.count ≤ length members.now }
+    ensures { result ≡ stands (record { numbers = right; span = spans; first = sheet.now.first; members = own sheet.now members.now; cards = read_cards cards.now }) }
+{
+    ground(right, Refusal::SheetNumber)?;
+    ground(spans, Refusal::MemberSpan)?;
+    numbers_stand(sheet, members, cards)
 }

@@ -4,11 +4,14 @@
 mod any;
 mod grounds;
 mod heel;
-mod scan;
+mod kinds;
 mod sheets;
 mod splice;
 mod trying;
 mod web;
 
 pub use any::{AnyJoint, AnySheet};
-pub use sheets::{HeelJoint, HeelSheet, Sheet, SpliceJoint, SpliceSheet, WebJoint};
+pub use heel::HeelJoint;
+pub use sheets::{HeelSheet, Sheet, SpliceSheet};
+pub use splice::SpliceJoint;
+pub use web::WebJoint;

@@ -1,5 +1,5 @@
-// The sheets, and the joints that they make with the caller's members and cards.
-use rules::{Card, Conditions, FactorRule, Member};
+// The sheets.
+use rules::{Conditions, FactorRule};
 
 // What a sheet of any kind says: its members are `count` of the caller's list from `first` on.
 #[derive(Clone, Copy)]
@@ -24,28 +24,4 @@ pub struct SpliceSheet {
     pub sheet: Sheet,
     pub moment: u32,
     pub wood: u32,
-}
-
-// A web joint over the caller's members and cards; family k is card k, counted from 0.
-#[derive(Clone, Copy)]
-pub struct WebJoint<'a> {
-    pub(crate) sheet: Sheet,
-    pub(crate) members: &'a [Member],
-    pub(crate) cards: &'a [Card],
-}
-
-// A heel joint, likewise.
-#[derive(Clone, Copy)]
-pub struct HeelJoint<'a> {
-    pub(crate) heel: HeelSheet,
-    pub(crate) members: &'a [Member],
-    pub(crate) cards: &'a [Card],
-}
-
-// A splice joint, likewise.
-#[derive(Clone, Copy)]
-pub struct SpliceJoint<'a> {
-    pub(crate) splice: SpliceSheet,
-    pub(crate) members: &'a [Member],
-    pub(crate) cards: &'a [Card],
 }

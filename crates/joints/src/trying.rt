@@ -1,117 +1,129 @@
-// Trying a plate on a joint: the clauses A to I, in order, each over all members before the next.
-ghost use Rattle.std.specs.Prelude.{◌≡◌, ◌^◌, ◌<◌, ◌≤◌, length};
-ghost use Rattle.std.specs.List.{AllByRecursion};
+// Trying a plate on a lawful joint: the clauses A to I, in order, each over all members before the
+// next.
+ghost use Rattle.std.specs.Prelude.{◌≡◌, ◌+◌, ◌≤◌, length, Ok, IfSome};
+ghost use Rattle.std.specs.List.{All};
 ghost use Rattle.plates.specs.Size.{size};
+ghost use Rattle.plates.specs.declared.verdicts.Verdict.TheVariants.{Misses};
 ghost use Rattle.clauses.specs.Clauses.{laid, meets};
 ghost use Rattle.rules.specs.Ranges.{CardWithin, MemberWithin};
 ghost use Rattle.clauses.specs.Within.{TrialWithin};
+ghost use Rattle.joints.specs.Grounds.{own, read_cards, numbers_stand};
+ghost use Rattle.joints.specs.Scan.{first_failing};
 ghost use Rattle.joints.specs.Verdict.{first_missed};
 ghost use Rattle.joints.specs.Checks.{card_of, member_clauses, each_of, checks};
 
-use super::scan::{Test, first_failing};
+use super::grounds::{own, read_cards};
+use super::sheets::Sheet;
 use clauses::{Trial, allowed, meets, short_teeth};
 use plates::{Clause, Plate, Turning, Verdict};
 use rules::{Card, Conditions, Member};
 
-const MEMBER_CLAUSES: [Clause; 6] = [
-    Clause::Bite,
-    Clause::CrossGrain,
-    Clause::Grip,
-    Clause::Tension,
-    Clause::Shear,
-    Clause::Slip,
-];
+// Off the heel the moment factor is 100.
+pub const OFF_HEEL: u32 = 100;
 
-// The family's card.
-pub fn card_of(cards: &[Card], family: u32) -> Option<Card>
-    ensures { result ≡ card_of cards.now family }
+// What is asked of each member: the clauses D to I, in order.
+fn member_clauses() -> [Clause; 6]
+    ensures { result ≡ member_clauses }
 {
-    let k = family as usize;
-    if k < cards.len() {
-        Some(cards[k])
-    } else {
-        None
-    }
+    [
+        Clause::Bite,
+        Clause::CrossGrain,
+        Clause::Grip,
+        Clause::Tension,
+        Clause::Shear,
+        Clause::Slip,
+    ]
 }
 
-// The test that a member clause makes of each member.
+// A clause of the joint as a whole is missed.
+pub fn missed(clause: Clause) -> Verdict
+    ensures { result ≡ Misses clause 0 }
+{
+    Verdict::Misses { clause, member: 0 }
+}
+
+// What a lawful joint gives its clauses: its own members and the cards that are read.
 #[derive(Clone, Copy)]
-struct Meets {
-    clause: Clause,
-    trial: Trial,
+pub struct Lawful<'a> {
+    pub own: &'a [Member],
+    cards: &'a [Card],
+    ghost few: { length own.now ≤ 6 },
+    ghost ranged: { All MemberWithin own.now },
+    ghost carded: { All CardWithin cards.now },
 }
 
-impl Test<Member> for Meets {
-    ghost ready = { λ t m. TrialWithin t.trial × MemberWithin m };
-
-    ghost holds = { λ t m. meets t.clause (laid t.trial) m };
-
-    fn holds(&self, item: &Member) -> bool {
-        meets(self.clause, &self.trial, item)
-    }
-}
-
-// The first of the member clauses that is missed, with its first member, counted from 1.
-fn members_verdict(trial: &Trial, own: &[Member]) -> Verdict
-    requires trial { TrialWithin trial.now }
-    requires own { AllByRecursion MemberWithin own.now }
-    requires few { length own.now ≤ 6 }
-    ensures { result ≡ first_missed (each_of member_clauses (laid trial.now)) own.now }
-{
-    for clause in MEMBER_CLAUSES {
-        let test = Meets {
-            clause,
-            trial: *trial,
-        };
-        if let Some(member) = first_failing(&test, 1, own) {
-            return Verdict::Misses { clause, member };
+impl<'a> Lawful<'a> {
+    pub fn new(sheet: &Sheet, members: &'a [Member], cards: &'a [Card]) -> Self
+        requires few { sheet.now.count ≤ 6 }
+        requires listed { sheet.now.first + sheet.now.count ≤ length members.now }
+        requires stand { numbers_stand sheet.now.first (own sheet.now members.now) (read_cards cards.now) ≡ Ok tt }
+        ensures own { result.own.now ≡ own sheet.now members.now }
+        ensures cards { result.cards.now ≡ read_cards cards.now }
+    {
+        Lawful {
+            own: own(sheet, members),
+            cards: read_cards(cards),
         }
     }
-    Verdict::Passes
-}
 
-// The verdict of the clauses A to I on one plate in one turning.
-pub fn tried(
-    conditions: &Conditions,
-    factor: u32,
-    cards: &[Card],
-    own: &[Member],
-    plate: Plate,
-    turning: Turning,
-) -> Verdict
-    requires factor { factor ≤ 100 }
-    requires cards { AllByRecursion CardWithin cards.now }
-    requires own { AllByRecursion MemberWithin own.now }
-    requires few { length own.now ≤ 6 }
-    ensures { result ≡ first_missed (checks conditions.now factor (card_of cards.now (size plate).family) (size plate) turning) own.now }
-{
-    if !allowed(conditions.turnings, turning) {
-        return Verdict::Misses {
-            clause: Clause::Turning,
-            member: 0,
-        };
+    // The family's card.
+    pub fn card(&self, family: u32) -> Option<Card>
+        ensures card { result ≡ card_of self.now.cards.now family }
+        ensures within { IfSome result CardWithin }
+    {
+        self.cards.get(family as usize).copied()
     }
-    let Some(card) = card_of(cards, plate.family()) else {
-        return Verdict::Misses {
-            clause: Clause::Card,
-            member: 0,
-        };
-    };
-    if !short_teeth(&card) {
-        return Verdict::Misses {
-            clause: Clause::Teeth,
-            member: 0,
-        };
+
+    // The first member that misses the clause, counted from 1.
+    fn first_missing(&self, clause: Clause, trial: &Trial) -> Option<usize>
+        requires { TrialWithin trial.now }
+        ensures { result ≡ first_failing (meets clause (laid trial.now)) 1 self.now.own.now }
+    {
+        self.own
+            .iter()
+            .position(|m| !meets(clause, trial, m))
+            .map(|i| 1 + i)
     }
-    let conditions = *conditions;
-    members_verdict(
-        &Trial {
-            conditions,
+
+    // The first of the member clauses that is missed, with its first member.
+    fn members_verdict(&self, trial: &Trial) -> Verdict
+        requires { TrialWithin trial.now }
+        ensures { result ≡ first_missed (each_of member_clauses (laid trial.now)) self.now.own.now }
+    {
+        for clause in member_clauses() {
+            if let Some(member) = self.first_missing(clause, trial) {
+                return Verdict::Misses { clause, member };
+            }
+        }
+        Verdict::Passes
+    }
+
+    // The verdict of the clauses A to I on one plate in one turning.
+    pub fn tried(
+        &self,
+        conditions: &Conditions,
+        factor: u32,
+        plate: Plate,
+        turning: Turning,
+    ) -> Verdict
+        requires { factor ≤ 100 }
+        ensures { result ≡ first_missed (checks conditions.now factor (card_of self.now.cards.now (size plate).family) (size plate) turning) self.now.own.now }
+    {
+        if !allowed(conditions.turnings, turning) {
+            return missed(Clause::Turning);
+        }
+        let Some(card) = self.card(plate.family()) else {
+            return missed(Clause::Card);
+        };
+        if !short_teeth(&card) {
+            return missed(Clause::Teeth);
+        }
+        self.members_verdict(&Trial {
+            conditions: *conditions,
             factor,
             card,
             plate,
             turning,
-        },
-        own,
-    )
+        })
+    }
 }
