@@ -9,7 +9,7 @@ use Rattle.plates.specs.declared.turnings.Turning.{Turning}
 use Rattle.plates.specs.declared.verdicts.Verdict.{Verdict}
 use Rattle.choice.specs.Choosing.{Fits}
 use Rattle.yard.specs.declared.bins.Bin.{Bin}
-use Rattle.yard.specs.declared.slips.DrawnSlip.{DrawnSlip}
+use Rattle.yard.specs.Slips.{DrawnSlip}
 use Rattle.yard.specs.Counts.{Count, empty, at}
 use Rattle.yard.specs.Calls.{Drew, Slipped, Told, has_place, in_yard}
 use Rattle.yard.specs.Runs.{Event, Ran, received, drawn, handed_back, pressed}

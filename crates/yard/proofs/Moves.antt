@@ -6,8 +6,7 @@ use Rattle.plates.specs.Size.{Size}
 use Rattle.plates.specs.declared.refusals.Refusal.{Refusal}
 use Rattle.plates.specs.declared.turnings.Turning.{Turning}
 use Rattle.plates.specs.declared.verdicts.Verdict.{Verdict}
-use Rattle.yard.specs.declared.slips.DrawnSlip.{DrawnSlip}
-use Rattle.yard.specs.declared.slips.TackedSlip.{TackedSlip}
+use Rattle.yard.specs.Slips.{DrawnSlip, TackedSlip}
 use Rattle.yard.specs.declared.slips.TurnedAway.{TurnedAway}
 use Rattle.yard.specs.Counts.{Count, empty, at, with_more, moved_out, moved_back, pressed_off}
 use Rattle.yard.specs.Calls.{Drew, Receipt, Settled, receipt_fault, slip_fault}

@@ -7,7 +7,7 @@ use Rattle.plates.specs.declared.refusals.Refusal.{Refusal}
 use Rattle.plates.specs.declared.turnings.Turning.{Turning}
 use Rattle.plates.specs.declared.verdicts.Verdict.{Verdict}
 use Rattle.yard.specs.declared.bins.Bin.{Bin}
-use Rattle.yard.specs.declared.slips.DrawnSlip.{DrawnSlip}
+use Rattle.yard.specs.Slips.{DrawnSlip}
 use Rattle.yard.specs.declared.slips.SlipNumbers.{SlipNumbers}
 use Rattle.yard.specs.Counts.{Count, counted, told, empty, at, with_more, moved_out}
 use Rattle.yard.specs.Calls.{Candidate, Drew, Found, Receipt, Received, Settled, Slipped, has_place, in_yard, receipt_fault, slip_fault}
@@ -59,29 +59,16 @@ receipt_taken places shows bins k pairs d b full e w =
     subst (λ f. Receipt f (told bins) k pairs (Ok tt) (told (set bins k b))) e
     (refl, told_set bins k b _ (w ∙ ap (with_more pairs) (at_told bins k d h)))
 
--- A slip that is not refused is read before it ends: what was read and what it ended with are its numbers.
-pub slip_out : (numbers read ended : SlipNumbers) (stamp : ℕ) (bins : List Bin) (d : Bin) → length bins ≡ 256 → None ≡ slip_fault stamp (told bins) read → read ≡ numbers → ended ≡ numbers
-    → 0 < (get_or bins ended.place d).out
-slip_out numbers read ended stamp bins d full e r s =
-    let m = slip_met stamp (told bins) ended (e ∙ ap (slip_fault stamp (told bins)) (r ∙ sym s)) in
-    let h : ended.place < length bins = omega arith in
-    omega (arith, ap (λ n. n.out) (at_told bins ended.place d h))
-
-settled : {S : Type 0} (slip : S) (numbers : SlipNumbers) (stamp : ℕ) (bins : List Bin) (change : Count → Count) (d b : Bin) → length bins ≡ 256
-    → None ≡ slip_fault stamp (told bins) numbers → counted b ≡ change (counted (get_or bins numbers.place d))
-    → Settled (slip_fault stamp (told bins) numbers) slip (told bins) numbers.place (change (at (told bins) numbers.place)) (Ok tt) (told (set bins numbers.place b))
-settled slip numbers stamp bins change d b full e w =
-    let m = slip_met stamp (told bins) numbers e in
-    let h : numbers.place < length bins = omega arith in
-    subst (λ f. Settled f slip (told bins) numbers.place (change (at (told bins) numbers.place)) (Ok tt) (told (set bins numbers.place b))) e
-    (refl, told_set bins numbers.place b _ (w ∙ ap change (at_told bins numbers.place d h)))
-
-pub slip_settled : {S : Type 0} (slip : S) (numbers read ended : SlipNumbers) (stamp : ℕ) (bins : List Bin) (change : Count → Count) (d b : Bin) → length bins ≡ 256
-    → None ≡ slip_fault stamp (told bins) read → read ≡ numbers → ended ≡ numbers → counted b ≡ change (counted (get_or bins ended.place d))
-    → Settled (slip_fault stamp (told bins) numbers) slip (told bins) numbers.place (change (at (told bins) numbers.place)) (Ok tt) (told (set bins ended.place b))
-slip_settled slip numbers read ended stamp bins change d b full e r s w =
-    subst (λ n. Settled (slip_fault stamp (told bins) numbers) slip (told bins) numbers.place (change (at (told bins) numbers.place)) (Ok tt) (told (set bins n.place b))) (sym s)
-    (settled slip numbers stamp bins change d b full (e ∙ ap (slip_fault stamp (told bins)) r) (subst (λ n. counted b ≡ change (counted (get_or bins n.place d))) s w))
+-- a slip that is not refused ends, and the bin at its place is written
+pub slip_settled : {S : Type 0} (slip : S) (numbers : SlipNumbers) (k stamp : ℕ) (bins : List Bin) (change : Count → Count) (d b : Bin) → length bins ≡ 256
+    → slip_fault stamp (told bins) numbers ≡ None → k ≡ numbers.place → counted b ≡ change (counted (get_or bins k d))
+    → Settled (slip_fault stamp (told bins) numbers) slip (told bins) numbers.place (change (at (told bins) numbers.place)) (Ok tt) (told (set bins k b))
+slip_settled slip numbers k stamp bins change d b full e there w =
+    let m = slip_met stamp (told bins) numbers (sym e) in
+    let h : k < length bins = omega arith in
+    subst (λ n. Settled (slip_fault stamp (told bins) numbers) slip (told bins) n (change (at (told bins) n)) (Ok tt) (told (set bins k b))) there
+    (subst (λ f. Settled f slip (told bins) k (change (at (told bins) k)) (Ok tt) (told (set bins k b))) (sym e)
+    (refl, told_set bins k b _ (w ∙ ap change (at_told bins k d h))))
 
 -- a candidate found in the yard is of a pair on hand
 pub found_held : (standing : Result (Unit {0}) Refusal) (verdict : Size → Turning → Verdict) (shows : ℕ → Option Size) (bins : List Bin) (c : Candidate) (d : Bin) → length bins ≡ 256

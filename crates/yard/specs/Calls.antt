@@ -8,9 +8,8 @@ use Rattle.plates.specs.declared.turnings.Turning.{Turning}
 use Rattle.plates.specs.declared.verdicts.Verdict.{Verdict}
 use Rattle.choice.specs.Choosing.{Fits, Least}
 use Rattle.yard.specs.declared.bins.Bin.{Bin}
-use Rattle.yard.specs.declared.slips.DrawnSlip.{DrawnSlip}
+use Rattle.yard.specs.Slips.{DrawnSlip, TackedSlip}
 use Rattle.yard.specs.declared.slips.SlipNumbers.{SlipNumbers}
-use Rattle.yard.specs.declared.slips.TackedSlip.{TackedSlip}
 use Rattle.yard.specs.declared.slips.TurnedAway.{TurnedAway}
 use Rattle.yard.specs.Counts.{Count, counted, at, room_for, with_more, moved_out, moved_back, pressed_off}
 

@@ -1,4 +1,5 @@
 pub mod Counts
+pub mod Slips
 pub mod Calls
 pub mod Runs
 pub mod Law

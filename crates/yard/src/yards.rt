@@ -1,12 +1,11 @@
 // The yard over a pile, and its five calls.
-ghost use Rattle.std.specs.Prelude.{◌≡◌, ◌<◌, length, replicate};
+ghost use Rattle.std.specs.Prelude.{◌≡◌, ◌<◌, length, replicate, Some, None, IfOk, IfErr};
 ghost use Rattle.yard.specs.Counts.{at, counted, empty, told};
 ghost use Rattle.yard.specs.Calls.{Drew, Found, HandedBack, Pressed, Received, Told, has_place, in_yard, receipt_fault, slip_fault};
 ghost use Rattle.yard.specs.Law.{Law};
 
 use super::bins::{Bin, changes};
-use super::slips;
-use super::slips::{DrawnSlip, SlipNumbers, TackedSlip, TurnedAway};
+use super::slips::{DrawnSlip, Slip, SlipNumbers, TackedSlip, TurnedAway};
 use choice::Candidate;
 use plates::{Joint, Plate, Refusal, Supply};
 
@@ -89,10 +88,7 @@ impl<P: Supply> Yard<P> {
         ensures pile { self.new.pile ≡ self.old.pile }
         ensures stamp { self.new.stamp ≡ self.old.stamp }
     {
-        if let Some(refusal) = self.slip_fault(slip.numbers()) {
-            return Err(TurnedAway { refusal, slip });
-        }
-        let place = slip.end().place;
+        let place = self.ended(slip)?;
         let bins = &mut self.bins;
         changes::hand_back(&mut bins[place as usize]);
         Ok(())
@@ -104,10 +100,7 @@ impl<P: Supply> Yard<P> {
         ensures pile { self.new.pile ≡ self.old.pile }
         ensures stamp { self.new.stamp ≡ self.old.stamp }
     {
-        if let Some(refusal) = self.slip_fault(slip.numbers()) {
-            return Err(TurnedAway { refusal, slip });
-        }
-        let place = slip.end().place;
+        let place = self.ended(slip)?;
         let bins = &mut self.bins;
         changes::press(&mut bins[place as usize]);
         Ok(())
@@ -134,7 +127,7 @@ impl<P: Supply> Yard<P> {
     fn slip_for(&self, candidate: Candidate, number: u32) -> DrawnSlip
         ensures { result.numbers ≡ record { stamp = self.now.stamp; place = candidate.0; turning = candidate.1; joint = number } }
     {
-        slips::drawn(SlipNumbers {
+        DrawnSlip::new(SlipNumbers {
             stamp: self.stamp,
             place: candidate.0,
             turning: candidate.1,
@@ -153,6 +146,17 @@ impl<P: Supply> Yard<P> {
             return Some(Refusal::BadReceipt { place });
         }
         None
+    }
+
+    // Ends a slip that is not turned away, and gives its place.
+    fn ended<S>(&self, slip: Slip<S>) -> Result<u32, TurnedAway<Slip<S>>>
+        ensures turned_away { IfErr result (λ t. (slip_fault self.now.stamp (told self.now.bins) slip.numbers ≡ Some t.refusal) × (t.slip ≡ slip)) }
+        ensures ended { IfOk result (λ k. (slip_fault self.now.stamp (told self.now.bins) slip.numbers ≡ None) × (k ≡ slip.numbers.place)) }
+    {
+        match self.slip_fault(slip.numbers()) {
+            Some(refusal) => Err(TurnedAway { refusal, slip }),
+            None => Ok(slip.end().place),
+        }
     }
 
     // Why a slip is turned away, if it is.
