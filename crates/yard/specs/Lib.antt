@@ -5,3 +5,5 @@ pub mod Runs
 pub mod Law
 pub mod Replays
 pub mod Hooks
+pub mod Yards
+pub mod Steps

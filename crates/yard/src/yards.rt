@@ -40,6 +40,8 @@ impl<P: Supply> Supply for Yard<P> {
 }
 
 impl<P: Supply> Yard<P> {
+    ghost use Rattle.yard.specs.Yards.{SamePile};
+
     // A yard with no pair on hand and none out. Whatever calls are then made on it, in any order
     // and with slips of any yard, its books balance, and the next drawing is of the least pair
     // on hand that passes.
@@ -59,8 +61,7 @@ impl<P: Supply> Yard<P> {
     // Pairs come in at a place where the pile shows a plate.
     pub fn receive(&mut self, place: u32, pairs: u32) -> Result<(), Refusal>
         ensures answer { Received (P.Supply.places self.old.pile) (P.Supply.shows self.old.pile) (told self.old.bins) place pairs result (told self.new.bins) }
-        ensures pile { self.new.pile ≡ self.old.pile }
-        ensures stamp { self.new.stamp ≡ self.old.stamp }
+        ensures same { SamePile self.old self.new }
     {
         if let Some(refusal) = self.receipt_fault(place, pairs) {
             return Err(refusal);
@@ -73,8 +74,7 @@ impl<P: Supply> Yard<P> {
     // Chooses the least plate on hand for the joint, and moves one pair of it out on a slip.
     pub fn draw<J: Joint>(&mut self, joint: &J, number: u32) -> Result<DrawnSlip, Refusal>
         ensures answer { Drew (J.Joint.standing joint.now) (J.Joint.verdict joint.now) (P.Supply.shows self.old.pile) self.old.stamp (told self.old.bins) number result (told self.new.bins) }
-        ensures pile { self.new.pile ≡ self.old.pile }
-        ensures stamp { self.new.stamp ≡ self.old.stamp }
+        ensures same { SamePile self.old self.new }
     {
         let candidate = self.least_on_hand(joint)?;
         let bins = &mut self.bins;
@@ -85,8 +85,7 @@ impl<P: Supply> Yard<P> {
     // The pair of a drawn slip comes back on hand, and the slip ends.
     pub fn hand_back(&mut self, slip: DrawnSlip) -> Result<(), TurnedAway<DrawnSlip>>
         ensures answer { HandedBack self.old.stamp (told self.old.bins) slip result (told self.new.bins) }
-        ensures pile { self.new.pile ≡ self.old.pile }
-        ensures stamp { self.new.stamp ≡ self.old.stamp }
+        ensures same { SamePile self.old self.new }
     {
         let place = self.ended(slip)?;
         let bins = &mut self.bins;
@@ -97,8 +96,7 @@ impl<P: Supply> Yard<P> {
     // The pair of a tacked slip is pressed into its joint, and the slip ends.
     pub fn press(&mut self, slip: TackedSlip) -> Result<(), TurnedAway<TackedSlip>>
         ensures answer { Pressed self.old.stamp (told self.old.bins) slip result (told self.new.bins) }
-        ensures pile { self.new.pile ≡ self.old.pile }
-        ensures stamp { self.new.stamp ≡ self.old.stamp }
+        ensures same { SamePile self.old self.new }
     {
         let place = self.ended(slip)?;
         let bins = &mut self.bins;
