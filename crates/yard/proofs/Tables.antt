@@ -10,7 +10,7 @@ use Rattle.yard.specs.declared.bins.Bin.{Bin}
 use Rattle.yard.specs.Slips.{DrawnSlip}
 use Rattle.yard.specs.declared.slips.SlipNumbers.{SlipNumbers}
 use Rattle.yard.specs.Counts.{Count, counted, told, empty, at, with_more, moved_out}
-use Rattle.yard.specs.Calls.{Candidate, Drew, Found, Receipt, Received, Settled, Slipped, has_place, in_yard, receipt_fault, slip_fault}
+use Rattle.yard.specs.Calls.{Candidate, Drew, Found, err_or_ok, Receipt, Received, Settled, Slipped, has_place, in_yard, receipt_fault, slip_fault}
 
 pub at_told : (bins : List Bin) (k : ℕ) (d : Bin) → k < length bins → counted (get_or bins k d) ≡ at (told bins) k
 at_told bins k d h = sym (get_or-map counted bins k d empty h)
@@ -23,6 +23,11 @@ passed : (a b : Bool) (first second : Refusal) → None ≡ cond a (cond b None 
 passed true true x y e = (refl, refl)
 passed true false x y e = let z : ◌≡◌ {A = ℕ} 0 1 = cc in absurd (omega arith)
 passed false b x y e = let z : ◌≡◌ {A = ℕ} 0 1 = cc in absurd (omega arith)
+
+-- a test that gave no error found no fault
+pub no_fault : (f : Option Refusal) (u : Unit {0}) → Ok u ≡ err_or_ok f → None ≡ f
+no_fault None u e = refl
+no_fault (Some x) u e = cc
 
 pub receipt_met : (places : ℕ) (shows : ℕ → Option Size) (counts : List Count) (k pairs : ℕ) → None ≡ receipt_fault places shows counts k pairs
     → (k < 256) × (k < places) × (1 ≤ pairs) × ((at counts k).on_hand + (at counts k).out + pairs ≤ 60000)

@@ -31,6 +31,11 @@ abbrev pub receipt_fault : ℕ → (ℕ → Option Size) → List Count → ℕ 
 receipt_fault places shows counts k pairs =
     cond (has_place places k && is_some (shows k)) (cond (room_for pairs (at counts k)) None (Some (BadReceipt k))) (Some (NoPlace k))
 
+-- a fault as the answer of a test: an error where there is one
+abbrev pub err_or_ok : Option Refusal → Result (Unit {0}) Refusal
+err_or_ok None = Ok tt
+err_or_ok (Some e) = Err e
+
 -- a refused receipt alters nothing; another adds its pairs on hand at its place
 abbrev pub Receipt : Option Refusal → List Count → ℕ → ℕ → Result (Unit {0}) Refusal → List Count → Type 0
 Receipt (Some e) before k pairs r after = (r ≡ Err e) × (after ≡ before)

@@ -1,11 +1,11 @@
 // Replaying a list of calls on a new yard, with the slips that it draws and those brought
 // from elsewhere on a rack.
-ghost use Rattle.std.specs.Prelude.{◌≡◌, ◌<◌, ◌≤◌, true, List, [], map, length, vec_len, vec_capacity, ◌==◌, slice_set, MatchResult};
+ghost use Rattle.std.specs.Prelude.{◌≡◌, ◌<◌, ◌≤◌, List, [], map, length, vec_len, vec_capacity, slice_set, MatchResult};
 ghost use Rattle.std.specs.Option.{option_copied, option_map};
 ghost use Rattle.yard.specs.Counts.{told};
 ghost use Rattle.yard.specs.Runs.{Event};
-ghost use Rattle.yard.specs.Replays.{Does, Draws, HandsBack, Presses, Replayed, Tacks, Voids, hung, means, told_off};
-ghost use Rattle.yard.specs.Yards.{SamePile, state};
+ghost use Rattle.yard.specs.Replays.{Does, Draws, HandsBack, Presses, Tacks, Voids, hung, means, told_off};
+ghost use Rattle.yard.specs.Yards.{IsOutcome, SamePile, state};
 ghost use Rattle.yard.specs.Steps.{StepReturns};
 
 use super::bins::Bin;
@@ -71,10 +71,7 @@ pub fn replay<P: Supply, J: Joint>(
     rack: Vec<Hook>,
     calls: &[Call],
 ) -> Outcome<P>
-    ensures law { Replayed (map (means J.Joint.standing J.Joint.verdict) joints.now) (P.Supply.places pile) (P.Supply.shows pile) stamp rack.items calls.now result.answers.items result.rack.items (told result.yard.bins) }
-    ensures complete { result.complete ≡ (vec_len result.answers == length calls.now) }
-    ensures pile { result.yard.pile ≡ pile }
-    ensures stamp { result.yard.stamp ≡ stamp }
+    ensures { IsOutcome (map (means J.Joint.standing J.Joint.verdict) joints.now) (P.Supply.places pile) (P.Supply.shows pile) pile stamp rack.items calls.now result }
 {
     rooms::play(&FromHeap, pile, stamp, joints, rack, Vec::new(heap), calls)
 }
@@ -185,11 +182,10 @@ fn void<P: Supply>(yard: &mut Yard<P>, held: Hook) -> (Hook, Answer)
     ensures answer { Voids held (told yard.old.bins) result.1 [] result.0 (told yard.new.bins) }
     ensures same { SamePile yard.old yard.new }
 {
-    match held {
-        Hook::Drawn(slip) => (Hook::Empty, Answer::Voided(slip.void())),
-        Hook::Tacked(slip) => (Hook::Empty, Answer::Voided(slip.void())),
-        Hook::Empty => (Hook::Empty, Answer::NoSlip),
-    }
+    (
+        Hook::Empty,
+        held.void().map_or(Answer::NoSlip, Answer::Voided),
+    )
 }
 
 // What is left on the hook of a slip that the yard took or turned away, and the answer.

@@ -1,7 +1,7 @@
 // The loop of a replay, and replaying with no memory but what the caller brings.
-ghost use Rattle.std.specs.Prelude.{◌≡◌, ℕ, ◌+◌, ◌<◌, ◌≤◌, true, false, ◌⊎◌, [], map, length, vec_len, vec_capacity, ◌==◌, nat_le};
-ghost use Rattle.yard.specs.Counts.{told};
-ghost use Rattle.yard.specs.Replays.{Replayed, means};
+ghost use Rattle.std.specs.Prelude.{◌≡◌, ℕ, ◌+◌, ◌<◌, ◌≤◌, true, false, ◌⊎◌, [], map, length, vec_len, vec_capacity, nat_le};
+ghost use Rattle.yard.specs.Replays.{means};
+ghost use Rattle.yard.specs.Yards.{IsOutcome};
 
 use super::replays::{Answer, Call, Hook, Outcome, perform};
 use super::yards::Yard;
@@ -52,12 +52,9 @@ pub fn replay_with_room<P: Supply, J: Joint>(
     mut answers: Vec<Answer>,
     calls: &[Call],
 ) -> Outcome<P>
-    ensures law { Replayed (map (means J.Joint.standing J.Joint.verdict) joints.now) (P.Supply.places pile) (P.Supply.shows pile) stamp rack.items calls.now result.answers.items result.rack.items (told result.yard.bins) }
-    ensures complete { result.complete ≡ (vec_len result.answers == length calls.now) }
+    ensures outcome { IsOutcome (map (means J.Joint.standing J.Joint.verdict) joints.now) (P.Supply.places pile) (P.Supply.shows pile) pile stamp rack.items calls.now result }
     ensures all { length calls.now ≤ vec_capacity answers → vec_len rack + length calls.now ≤ vec_capacity rack → result.complete ≡ true }
     ensures stops { result.complete ≡ false → (vec_capacity rack ≤ vec_len result.rack) ⊎ (vec_capacity answers ≤ vec_len result.answers) }
-    ensures pile { result.yard.pile ≡ pile }
-    ensures stamp { result.yard.stamp ≡ stamp }
 {
     answers.clear();
     play(&Brought, pile, stamp, joints, rack, answers, calls)
@@ -74,13 +71,10 @@ pub(crate) fn play<R: Room, P: Supply, J: Joint>(
     calls: &[Call],
 ) -> Outcome<P>
     requires { answers.items ≡ [] }
-    ensures law { Replayed (map (means J.Joint.standing J.Joint.verdict) joints.now) (P.Supply.places pile) (P.Supply.shows pile) stamp rack.items calls.now result.answers.items result.rack.items (told result.yard.bins) }
-    ensures complete { result.complete ≡ (vec_len result.answers == length calls.now) }
+    ensures outcome { IsOutcome (map (means J.Joint.standing J.Joint.verdict) joints.now) (P.Supply.places pile) (P.Supply.shows pile) pile stamp rack.items calls.now result }
     ensures stops { result.complete ≡ false → (R.ends (vec_len result.rack) (vec_capacity result.rack)) ⊎ (R.ends (vec_len result.answers) (vec_capacity result.answers)) }
     ensures rack_room { vec_capacity rack ≤ vec_capacity result.rack }
     ensures answers_room { vec_capacity answers ≤ vec_capacity result.answers }
-    ensures pile { result.yard.pile ≡ pile }
-    ensures stamp { result.yard.stamp ≡ stamp }
 {
     let mut yard = Yard::new(pile, stamp);
     for call in calls {

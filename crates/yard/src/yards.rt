@@ -1,10 +1,10 @@
 // The yard over a pile, and its five calls.
 ghost use Rattle.std.specs.Prelude.{◌≡◌, ◌<◌, length, replicate, Some, None, IfOk, IfErr};
 ghost use Rattle.yard.specs.Counts.{at, counted, empty, told};
-ghost use Rattle.yard.specs.Calls.{Drew, Found, HandedBack, Pressed, Received, Told, has_place, in_yard, receipt_fault, slip_fault};
+ghost use Rattle.yard.specs.Calls.{Drew, Found, HandedBack, Pressed, Received, Told, err_or_ok, has_place, in_yard, receipt_fault, slip_fault};
 ghost use Rattle.yard.specs.Law.{Law};
 
-use super::bins::{Bin, changes};
+use super::bins::Bin;
 use super::slips::{DrawnSlip, Slip, SlipNumbers, TackedSlip, TurnedAway};
 use choice::Candidate;
 use plates::{Joint, Plate, Refusal, Supply};
@@ -12,6 +12,7 @@ use plates::{Joint, Plate, Refusal, Supply};
 pub const BINS: u32 = 256;
 
 // A pile, the stamp that is written on the yard's slips, and the pairs at its first 256 places.
+// A call that changes a bin lends all of them first: the check doesn't build `self.bins[i].draw()`.
 #[derive(Drop)]
 pub struct Yard<P> {
     pile: P,
@@ -63,11 +64,9 @@ impl<P: Supply> Yard<P> {
         ensures answer { Received (P.Supply.places self.old.pile) (P.Supply.shows self.old.pile) (told self.old.bins) place pairs result (told self.new.bins) }
         ensures same { SamePile self.old self.new }
     {
-        if let Some(refusal) = self.receipt_fault(place, pairs) {
-            return Err(refusal);
-        }
+        self.check_receipt(place, pairs)?;
         let bins = &mut self.bins;
-        changes::receive(&mut bins[place as usize], pairs);
+        bins[place as usize].receive(pairs);
         Ok(())
     }
 
@@ -78,7 +77,7 @@ impl<P: Supply> Yard<P> {
     {
         let candidate = self.least_on_hand(joint)?;
         let bins = &mut self.bins;
-        changes::draw(&mut bins[candidate.0 as usize]);
+        bins[candidate.0 as usize].draw();
         Ok(self.slip_for(candidate, number))
     }
 
@@ -89,7 +88,7 @@ impl<P: Supply> Yard<P> {
     {
         let place = self.ended(slip)?;
         let bins = &mut self.bins;
-        changes::hand_back(&mut bins[place as usize]);
+        bins[place as usize].hand_back();
         Ok(())
     }
 
@@ -100,7 +99,7 @@ impl<P: Supply> Yard<P> {
     {
         let place = self.ended(slip)?;
         let bins = &mut self.bins;
-        changes::press(&mut bins[place as usize]);
+        bins[place as usize].press();
         Ok(())
     }
 
@@ -133,17 +132,17 @@ impl<P: Supply> Yard<P> {
         })
     }
 
-    // Why a receipt is turned away, if it is.
-    fn receipt_fault(&self, place: u32, pairs: u32) -> Option<Refusal>
-        ensures { result ≡ receipt_fault (P.Supply.places self.now.pile) (P.Supply.shows self.now.pile) (told self.now.bins) place pairs }
+    // A receipt is turned away where the yard has no such place, or no room there.
+    fn check_receipt(&self, place: u32, pairs: u32) -> Result<(), Refusal>
+        ensures { result ≡ err_or_ok (receipt_fault (P.Supply.places self.now.pile) (P.Supply.shows self.now.pile) (told self.now.bins) place pairs) }
     {
         if !self.has_place(place) || self.pile.plate(place).is_none() {
-            return Some(Refusal::NoPlace { place });
+            return Err(Refusal::NoPlace { place });
         }
         if !self.bin(place).takes(pairs) {
-            return Some(Refusal::BadReceipt { place });
+            return Err(Refusal::BadReceipt { place });
         }
-        None
+        Ok(())
     }
 
     // Ends a slip that is not turned away, and gives its place.
@@ -151,23 +150,23 @@ impl<P: Supply> Yard<P> {
         ensures turned_away { IfErr result (λ t. (slip_fault self.now.stamp (told self.now.bins) slip.numbers ≡ Some t.refusal) × (t.slip ≡ slip)) }
         ensures ended { IfOk result (λ k. (slip_fault self.now.stamp (told self.now.bins) slip.numbers ≡ None) × (k ≡ slip.numbers.place)) }
     {
-        match self.slip_fault(slip.numbers()) {
-            Some(refusal) => Err(TurnedAway { refusal, slip }),
-            None => Ok(slip.end().place),
+        match self.check_slip(slip.numbers()) {
+            Ok(()) => Ok(slip.end().place),
+            Err(refusal) => Err(TurnedAway { refusal, slip }),
         }
     }
 
-    // Why a slip is turned away, if it is.
-    fn slip_fault(&self, slip: SlipNumbers) -> Option<Refusal>
-        ensures { result ≡ slip_fault self.now.stamp (told self.now.bins) slip }
+    // A slip is turned away where it is of another stamp, or no pair is out at its place.
+    fn check_slip(&self, slip: SlipNumbers) -> Result<(), Refusal>
+        ensures { result ≡ err_or_ok (slip_fault self.now.stamp (told self.now.bins) slip) }
     {
         if slip.stamp != self.stamp {
-            return Some(Refusal::OtherStamp);
+            return Err(Refusal::OtherStamp);
         }
         if slip.place >= BINS || self.bin(slip.place).out() == 0 {
-            return Some(Refusal::NoneOut);
+            return Err(Refusal::NoneOut);
         }
-        None
+        Ok(())
     }
 
     fn has_place(&self, place: u32) -> bool

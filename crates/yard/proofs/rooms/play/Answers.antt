@@ -21,10 +21,12 @@ loop-call-preserved g c =
     in
     record { counted = more.0; worked = more.1; pile = search rules; stamp = search rules; rack_room = omega arith; answers_room = omega arith }
 
-pub returns-clause-law : goal.returns-clause-law
-returns-clause-law g c =
+pub returns-clause-outcome : goal.returns-clause-outcome
+returns-clause-outcome g c =
     let joints : List Means = map (means g.J.Joint.standing g.J.Joint.verdict) c.args.joints.now in
     let rack : c.loop-call-test.rack.items ≡ c.loop-call.rack.items = search rules in
     let answers : c.loop-call-test.answers.items ≡ c.loop-call.answers.items = search rules in
-    worked_replayed joints (g.P.Supply.places c.args.pile) (g.P.Supply.shows c.args.pile) c.args.stamp c.args.rack.items c.args.calls.now c.loop-call-test.answers.items c.loop-call-test.rack.items (told c.loop-call.yard.bins)
+    let law = worked_replayed joints (g.P.Supply.places c.args.pile) (g.P.Supply.shows c.args.pile) c.args.stamp c.args.rack.items c.args.calls.now c.loop-call-test.answers.items c.loop-call-test.rack.items (told c.loop-call.yard.bins)
     (rw (rack, answers) c.loop-call.invariant.worked)
+    in
+    record { law = law; complete = search rules; pile = search rules; stamp = search rules }

@@ -6,4 +6,4 @@ pub returns-clause-answer : goal.returns-clause-answer
 returns-clause-answer g c =
     let yard = c.args.self.now in
     let ended = c.in_ok-place.ensures.ended in
-    slip_settled c.args.slip c.args.slip.numbers c.in_ok-place.place yard.stamp yard.bins moved_back c.index-bins-place.result c.hand_back.new.bin yard.full ended.0 ended.1 c.hand_back.ensures
+    slip_settled c.args.slip c.args.slip.numbers c.in_ok-place.place yard.stamp yard.bins moved_back c.index-bins-place.result c.hand_back.new.self yard.full ended.0 ended.1 c.hand_back.ensures
