@@ -41,9 +41,9 @@ wrote before after j new e h P here there = (
 
 receipt_kept : (places : ℕ) (shows : ℕ → Option Size) (before after : List Count) (j pairs : ℕ) (f : Option Refusal) (r : Result (Unit {0}) Refusal) → length before ≡ 256
     → f ≡ receipt_fault places shows before j pairs → Receipt f before j pairs r after → Kept before (receipt j pairs r) after
-receipt_kept places shows before after j pairs (Some e) (Ok u) full q h = let z : ◌≡◌ {A = ℕ} 0 1 = cc h.0 in absurd (omega arith)
+receipt_kept places shows before after j pairs (Some e) (Ok u) full q h = cc h.0
 receipt_kept places shows before after j pairs (Some e) (Err x) full q h = still before after h.1
-receipt_kept places shows before after j pairs None (Err x) full q h = let z : ◌≡◌ {A = ℕ} 0 1 = cc h.0 in absurd (omega arith)
+receipt_kept places shows before after j pairs None (Err x) full q h = cc h.0
 receipt_kept places shows before after j pairs None (Ok u) full q h =
     let m = receipt_met places shows before j pairs q in
     wrote before after j (with_more pairs (at before j)) h.1 (omega arith) (λ k b c. Moved (at before k) c (cond b pairs 0) 0 0 0)
@@ -52,7 +52,7 @@ receipt_kept places shows before after j pairs None (Ok u) full q h =
 
 drawing_kept : (shows : ℕ → Option Size) (stamp : ℕ) (before after : List Count) (standing : Result (Unit {0}) Refusal) (verdict : Size → Turning → Verdict) (joint : ℕ) (r : Result DrawnSlip Refusal) → length before ≡ 256
     → Drew standing verdict shows stamp before joint r after → Kept before (drawing standing verdict joint r) after
-drawing_kept shows stamp before after (Err e) verdict joint (Ok slip) full h = let z : ◌≡◌ {A = ℕ} 0 1 = cc h.0 in absurd (omega arith)
+drawing_kept shows stamp before after (Err e) verdict joint (Ok slip) full h = cc h.0
 drawing_kept shows stamp before after (Err e) verdict joint (Err x) full h = still before after h.1
 drawing_kept shows stamp before after (Ok u) verdict joint (Err x) full h = still before after h.2
 drawing_kept shows stamp before after (Ok u) verdict joint (Ok slip) full h =
@@ -64,9 +64,9 @@ drawing_kept shows stamp before after (Ok u) verdict joint (Ok slip) full h =
 
 hand_back_kept : (stamp : ℕ) (before after : List Count) (slip : DrawnSlip) (f : Option Refusal) (r : Result (Unit {0}) (TurnedAway DrawnSlip)) → length before ≡ 256
     → f ≡ slip_fault stamp before slip.numbers → Settled f slip before slip.numbers.place (moved_back (at before slip.numbers.place)) r after → Kept before (hand_back slip r) after
-hand_back_kept stamp before after slip (Some e) (Ok u) full q h = let z : ◌≡◌ {A = ℕ} 0 1 = cc h.0 in absurd (omega arith)
+hand_back_kept stamp before after slip (Some e) (Ok u) full q h = cc h.0
 hand_back_kept stamp before after slip (Some e) (Err x) full q h = still before after h.1
-hand_back_kept stamp before after slip None (Err x) full q h = let z : ◌≡◌ {A = ℕ} 0 1 = cc h.0 in absurd (omega arith)
+hand_back_kept stamp before after slip None (Err x) full q h = cc h.0
 hand_back_kept stamp before after slip None (Ok u) full q h =
     let m = slip_met stamp before slip.numbers q in
     wrote before after slip.numbers.place (moved_back (at before slip.numbers.place)) h.1 (omega arith) (λ k b c. Moved (at before k) c 0 0 (cond b 1 0) 0)
@@ -75,9 +75,9 @@ hand_back_kept stamp before after slip None (Ok u) full q h =
 
 pressing_kept : (stamp : ℕ) (before after : List Count) (slip : TackedSlip) (f : Option Refusal) (r : Result (Unit {0}) (TurnedAway TackedSlip)) → length before ≡ 256
     → f ≡ slip_fault stamp before slip.numbers → Settled f slip before slip.numbers.place (pressed_off (at before slip.numbers.place)) r after → Kept before (pressing slip r) after
-pressing_kept stamp before after slip (Some e) (Ok u) full q h = let z : ◌≡◌ {A = ℕ} 0 1 = cc h.0 in absurd (omega arith)
+pressing_kept stamp before after slip (Some e) (Ok u) full q h = cc h.0
 pressing_kept stamp before after slip (Some e) (Err x) full q h = still before after h.1
-pressing_kept stamp before after slip None (Err x) full q h = let z : ◌≡◌ {A = ℕ} 0 1 = cc h.0 in absurd (omega arith)
+pressing_kept stamp before after slip None (Err x) full q h = cc h.0
 pressing_kept stamp before after slip None (Ok u) full q h =
     let m = slip_met stamp before slip.numbers q in
     wrote before after slip.numbers.place (pressed_off (at before slip.numbers.place)) h.1 (omega arith) (λ k b c. Moved (at before k) c 0 0 0 (cond b 1 0))

@@ -21,8 +21,8 @@ told_set bins k b new e = map-set counted bins k b ∙ ap (λ c. set (told bins)
 -- of two tests, one after the other, of which neither refused, both were met
 passed : (a b : Bool) (first second : Refusal) → None ≡ cond a (cond b None (Some second)) (Some first) → (a ≡ true) × (b ≡ true)
 passed true true x y e = (refl, refl)
-passed true false x y e = let z : ◌≡◌ {A = ℕ} 0 1 = cc in absurd (omega arith)
-passed false b x y e = let z : ◌≡◌ {A = ℕ} 0 1 = cc in absurd (omega arith)
+passed true false x y e = cc
+passed false b x y e = cc
 
 -- a test that gave no error found no fault
 pub no_fault : (f : Option Refusal) (u : Unit {0}) → Ok u ≡ err_or_ok f → None ≡ f
@@ -45,7 +45,7 @@ slip_met stamp counts slip e =
 
 held : (a : Bool) (o : Option Size) (s : Size) → cond a o None ≡ Some s → (a ≡ true) × (o ≡ Some s)
 held true o s e = (refl, e)
-held false o s e = let z : ◌≡◌ {A = ℕ} 0 1 = cc in absurd (omega arith)
+held false o s e = cc
 
 -- what the yard shows is the pile's plate, with a pair on hand
 pub in_yard_held : (shows : ℕ → Option Size) (counts : List Count) (k : ℕ) (s : Size) → in_yard shows counts k ≡ Some s
@@ -78,7 +78,7 @@ slip_settled slip numbers k stamp bins change d b full e there w =
 -- a candidate found in the yard is of a pair on hand
 pub found_held : (standing : Result (Unit {0}) Refusal) (verdict : Size → Turning → Verdict) (shows : ℕ → Option Size) (bins : List Bin) (c : Candidate) (d : Bin) → length bins ≡ 256
     → Found standing verdict (in_yard shows (told bins)) (Ok c) → 0 < (get_or bins c.0 d).on_hand
-found_held (Err x) verdict shows bins c d full e = let z : ◌≡◌ {A = ℕ} 0 1 = cc in absurd (omega arith)
+found_held (Err x) verdict shows bins c d full e = cc
 found_held (Ok u) verdict shows bins c d full e =
     let m = in_yard_held shows (told bins) c.0 e.1.plate e.1.fits.0 in
     let h : c.0 < length bins = omega arith in
@@ -89,7 +89,7 @@ pub found_drawn : (standing : Result (Unit {0}) Refusal) (verdict : Size → Tur
     → slip.numbers ≡ record { stamp = stamp; place = c.0; turning = c.1; joint = joint }
     → counted b ≡ moved_out (counted (get_or bins c.0 d))
     → Drew standing verdict shows stamp (told bins) joint (Ok slip) (told (set bins c.0 b))
-found_drawn (Err x) verdict shows stamp bins joint c slip d b full e n w = let z : ◌≡◌ {A = ℕ} 0 1 = cc in absurd (omega arith)
+found_drawn (Err x) verdict shows stamp bins joint c slip d b full e n w = cc
 found_drawn (Ok u) verdict shows stamp bins joint c slip d b full e n w =
     let m = in_yard_held shows (told bins) c.0 e.1.plate e.1.fits.0 in
     let h : c.0 < length bins = omega arith in

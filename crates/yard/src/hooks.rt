@@ -62,7 +62,7 @@ pub fn open_slips(heap: Global, rack: &[Hook]) -> Result<Vec<OpenSlip>, AllocErr
 pub fn void_all(mut rack: Vec<Hook>) -> usize
     ensures { result ≡ hanging rack.items }
 {
-    // A loop: the slips must end one by one, and an iterator over them could be let go.
+    // A loop: an iterator over slips would be let go at its end, and a slip cannot be.
     let mut ended = 0;
     while let Some(hook) = rack.pop() {
         if hook.void().is_some() {
