@@ -26,14 +26,14 @@ still before after e =
 
 -- after a write at j: what holds of the new numbers there, and of the old ones elsewhere
 wrote : (before after : List Count) (j : ℕ) (new : Count) → after ≡ set before j new → j < length before → (P : ℕ → Bool → Count → Type 0)
-    → ((k : ℕ) → j ≡ k → P k true new) → ((k : ℕ) → P k false (at before k))
+    → P j true new → ((k : ℕ) → P k false (at before k))
     → (length after ≡ length before) × ((k : ℕ) → P k (eqb j k) (at after k))
 wrote before after j new e h P here there = (
   ap length e ∙ length-set before j new,
   λ k. subst (λ c. P k (eqb j k) (at c k)) (sym e)
       (elim (eqb_tells j k) [
         | inl t ↦ subst (λ b. P k b (at (set before j new) k)) (sym t.0)
-            (subst (λ i. P k true (at (set before j new) i)) t.1 (subst (λ c. P k true c) (sym (get_or-set_same before j new empty h)) (here k t.1)))
+            (subst (λ i. P k true (at (set before j new) i)) t.1 (subst (λ c. P k true c) (sym (get_or-set_same before j new empty h)) (subst (λ i. P i true new) t.1 here)))
         | inr f ↦ subst (λ b. P k b (at (set before j new) k)) (sym f.0)
             (subst (λ c. P k false c) (sym (get_or-set_other before j k new empty (λ q. f.1 (sym q)))) (there k))
       ]),
@@ -47,7 +47,7 @@ receipt_kept places shows before after j pairs None (Err x) full q h = cc h.0
 receipt_kept places shows before after j pairs None (Ok u) full q h =
     let m = receipt_met places shows before j pairs q in
     wrote before after j (with_more pairs (at before j)) h.1 (omega arith) (λ k b c. Moved (at before k) c (cond b pairs 0) 0 0 0)
-    (λ k e. let s : at before j ≡ at before k = ap (at before) e in (omega (arith, ap (λ n. n.on_hand) s), omega (arith, ap (λ n. n.out) s)))
+    (omega arith, omega arith)
     (λ k. (omega arith, omega arith))
 
 drawing_kept : (shows : ℕ → Option Size) (stamp : ℕ) (before after : List Count) (standing : Result (Unit {0}) Refusal) (verdict : Size → Turning → Verdict) (joint : ℕ) (r : Result DrawnSlip Refusal) → length before ≡ 256
@@ -56,10 +56,9 @@ drawing_kept shows stamp before after (Err e) verdict joint (Ok slip) full h = c
 drawing_kept shows stamp before after (Err e) verdict joint (Err x) full h = still before after h.1
 drawing_kept shows stamp before after (Ok u) verdict joint (Err x) full h = still before after h.2
 drawing_kept shows stamp before after (Ok u) verdict joint (Ok slip) full h =
-    let j : ℕ = slip.numbers.place in
     let m = in_yard_held shows before slip.numbers.place h.least.plate h.least.fits.0 in
     wrote before after slip.numbers.place (moved_out (at before slip.numbers.place)) h.moved (omega arith) (λ k b c. Moved (at before k) c 0 (cond b 1 0) 0 0)
-    (λ k e. let s : at before slip.numbers.place ≡ at before k = ap (at before) e in (omega (arith, ap (λ n. n.on_hand) s), omega (arith, ap (λ n. n.out) s)))
+    (omega arith, omega arith)
     (λ k. (omega arith, omega arith))
 
 hand_back_kept : (stamp : ℕ) (before after : List Count) (slip : DrawnSlip) (f : Option Refusal) (r : Result (Unit {0}) (TurnedAway DrawnSlip)) → length before ≡ 256
@@ -70,7 +69,7 @@ hand_back_kept stamp before after slip None (Err x) full q h = cc h.0
 hand_back_kept stamp before after slip None (Ok u) full q h =
     let m = slip_met stamp before slip.numbers q in
     wrote before after slip.numbers.place (moved_back (at before slip.numbers.place)) h.1 (omega arith) (λ k b c. Moved (at before k) c 0 0 (cond b 1 0) 0)
-    (λ k e. let s : at before slip.numbers.place ≡ at before k = ap (at before) e in (omega (arith, ap (λ n. n.on_hand) s), omega (arith, ap (λ n. n.out) s)))
+    (omega arith, omega arith)
     (λ k. (omega arith, omega arith))
 
 pressing_kept : (stamp : ℕ) (before after : List Count) (slip : TackedSlip) (f : Option Refusal) (r : Result (Unit {0}) (TurnedAway TackedSlip)) → length before ≡ 256
@@ -81,7 +80,7 @@ pressing_kept stamp before after slip None (Err x) full q h = cc h.0
 pressing_kept stamp before after slip None (Ok u) full q h =
     let m = slip_met stamp before slip.numbers q in
     wrote before after slip.numbers.place (pressed_off (at before slip.numbers.place)) h.1 (omega arith) (λ k b c. Moved (at before k) c 0 0 0 (cond b 1 0))
-    (λ k e. let s : at before slip.numbers.place ≡ at before k = ap (at before) e in (omega (arith, ap (λ n. n.on_hand) s), omega (arith, ap (λ n. n.out) s)))
+    (omega arith, omega arith)
     (λ k. (omega arith, omega arith))
 
 step_kept : (places : ℕ) (shows : ℕ → Option Size) (stamp : ℕ) (before after : List Count) (e : Event) → length before ≡ 256 → Step places shows stamp before e after → Kept before e after
