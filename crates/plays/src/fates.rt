@@ -31,10 +31,10 @@ pub fn slip_of(call: Call) -> Option<usize>
     ensures { result ≡ slip_of call }
 {
     match call {
-        Call::Tack { slip } => Some(slip),
-        Call::HandBack { slip } => Some(slip),
-        Call::Press { slip } => Some(slip),
-        Call::Void { slip } => Some(slip),
+        Call::Tack { slip }
+        | Call::HandBack { slip }
+        | Call::Press { slip }
+        | Call::Void { slip } => Some(slip),
         _ => None,
     }
 }
