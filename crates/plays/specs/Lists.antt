@@ -1,7 +1,6 @@
 -- The press list of what was done.
-use Rattle.std.specs.Prelude.{ℕ, Bool, true, false, cond, ◌||◌, List, [], ◌∷◌, ◌++◌, Some, None, Option, ◌==◌}
-use Rattle.std.specs.List.{slice_get}
-use Rattle.std.specs.Option.{option_to_list}
+use Rattle.std.specs.Prelude.{ℕ, Bool, true, false, cond, List, Some, None, Option, ◌==◌}
+use Rattle.std.specs.List.{filter_map, list_any, slice_get}
 use Rattle.yard.specs.declared.slips.SlipNumbers.{SlipNumbers}
 use Rattle.plays.specs.declared.fates.Fate.{Fate}
 use Rattle.plays.specs.declared.fates.Fate.TheVariants as fate
@@ -10,11 +9,6 @@ use Rattle.plays.specs.declared.lists.End.{End}
 use Rattle.plays.specs.declared.lists.End.TheVariants as end
 use Rattle.plays.specs.declared.lists.PressLine.{PressLine}
 use Rattle.plays.specs.Fates.{fate_of, slip_of}
-
--- what the calls give, in their order
-abbrev pub gathered : {X : Type 0} → (Done → Option X) → List Done → List X
-gathered gives [] = []
-gathered gives (d ∷ ds) = option_to_list (gives d) ++ gathered gives ds
 
 -- the slip that a call drew
 abbrev pub drawn_in : Fate → Option SlipNumbers
@@ -29,7 +23,7 @@ drawn_by d = drawn_in (fate_of d.answer)
 
 -- the slips that were drawn
 abbrev pub slips : List Done → List SlipNumbers
-slips = gathered drawn_by
+slips = filter_map drawn_by
 
 -- the slip that a call tacked
 abbrev pub tacked_in : Fate → Option ℕ → Option ℕ
@@ -64,8 +58,7 @@ ends way slip d = cond (ended_in way (fate_of d.answer)) (is slip (slip_of d.cal
 
 -- one of the calls did
 abbrev pub has_ended : End → ℕ → List Done → Bool
-has_ended way slip [] = false
-has_ended way slip (d ∷ ds) = ends way slip d || has_ended way slip ds
+has_ended way slip = list_any (ends way slip)
 
 -- a slip in the press list, with its numbers, and whether its pair was pressed
 abbrev pub line_of : List Done → ℕ → SlipNumbers → PressLine
@@ -82,4 +75,4 @@ pressing all (Some slip) = listed all slip (slice_get (slips all) slip)
 
 -- in the order of tacking
 abbrev pub press_list : List Done → List PressLine
-press_list all = gathered (λ d. pressing all (tacked_by d)) all
+press_list all = filter_map (λ d. pressing all (tacked_by d)) all

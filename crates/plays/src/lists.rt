@@ -1,8 +1,7 @@
 // What a journal comes to: its calls with their answers, and the pairs that were tacked.
-ghost use Rattle.std.specs.Prelude.{◌≡◌, map, length, IfOk, Some};
+ghost use Rattle.std.specs.Prelude.{◌≡◌, map, length, IfOk};
 ghost use Rattle.plays.specs.Beside.{Beside};
-ghost use Rattle.plays.specs.Lists.{drawn_by, ends, has_ended, is, press_list, pressing, slips, tacked_by};
-ghost use Rattle.plays.specs.Fates.{slip_of};
+ghost use Rattle.plays.specs.Lists.{drawn_by, ends, has_ended, press_list, pressing, slips, tacked_by};
 
 use super::fates::{Fate, fate_of, slip_of};
 use journals::Entry;
@@ -37,11 +36,7 @@ enum End {
 pub fn calls_of(heap: Global, entries: &[Entry]) -> Result<Vec<Call>, AllocError>
     ensures { IfOk result (λ v. v.items ≡ map (λ e. e.call) entries.now) }
 {
-    let mut calls = Vec::new(heap);
-    for entry in entries.iter() {
-        calls.push(entry.call)?;
-    }
-    Ok(calls)
+    entries.iter().map(|entry| entry.call).collect(heap)
 }
 
 // Each entry with the answer of its call.
@@ -52,17 +47,15 @@ pub fn answered(
 ) -> Result<Vec<Done>, AllocError>
     ensures { IfOk result (λ v. length entries.now ≡ length answers.now → Beside entries.now answers.now v.items) }
 {
-    let mut all = Vec::new(heap);
-    for (index, entry) in entries.iter().enumerate() {
-        if index < answers.len() {
-            all.push(Done {
-                line: entry.line,
-                call: entry.call,
-                answer: answers[index],
-            })?;
-        }
-    }
-    Ok(all)
+    entries
+        .iter()
+        .zip(answers.iter())
+        .map(|(entry, answer)| Done {
+            line: entry.line,
+            call: entry.call,
+            answer: *answer,
+        })
+        .collect(heap)
 }
 
 // The pairs that were tacked and not voided, in the order of tacking.
@@ -70,40 +63,25 @@ pub fn press_list(heap: Global, all: &[Done]) -> Result<Vec<PressLine>, AllocErr
     ensures { IfOk result (λ v. v.items ≡ press_list all.now) }
 {
     let drawn = slips(heap, all)?;
-    let mut list = Vec::new(heap);
-    for done in all.iter() {
-        if let Some(pair) = pressing(all, drawn.as_slice(), done) {
-            list.push(pair)?;
-        }
-    }
-    Ok(list)
+    let drawn = drawn.as_slice();
+    all.iter()
+        .filter_map(|done| pressing(all, drawn, done))
+        .collect(heap)
 }
 
-// What a call adds to the press list.
+// What a call adds to the press list: the slip that it tacked, unless that was voided.
 fn pressing(all: &[Done], drawn: &[SlipNumbers], done: &Done) -> Option<PressLine>
     requires { drawn.now ≡ slips all.now }
     ensures { result ≡ pressing all.now (tacked_by done.now) }
 {
-    match tacked_by(done) {
-        Some(slip) => listed(all, drawn, slip),
-        None => None,
-    }
-}
-
-// The line of a slip that was tacked.
-fn listed(all: &[Done], drawn: &[SlipNumbers], slip: usize) -> Option<PressLine>
-    requires { drawn.now ≡ slips all.now }
-    ensures { result ≡ pressing all.now (Some slip) }
-{
-    if slip >= drawn.len() {
-        return None;
-    }
+    let slip = tacked_by(done)?;
+    let numbers = *drawn.get(slip)?;
     if has_ended(all, End::Voided, slip) {
         return None;
     }
     Some(PressLine {
         slip,
-        numbers: drawn[slip],
+        numbers,
         pressed: has_ended(all, End::Pressed, slip),
     })
 }
@@ -112,13 +90,7 @@ fn listed(all: &[Done], drawn: &[SlipNumbers], slip: usize) -> Option<PressLine>
 fn slips(heap: Global, all: &[Done]) -> Result<Vec<SlipNumbers>, AllocError>
     ensures { IfOk result (λ v. v.items ≡ slips all.now) }
 {
-    let mut slips = Vec::new(heap);
-    for done in all.iter() {
-        if let Some(slip) = drawn_by(done) {
-            slips.push(slip)?;
-        }
-    }
-    Ok(slips)
+    all.iter().filter_map(drawn_by).collect(heap)
 }
 
 fn drawn_by(done: &Done) -> Option<SlipNumbers>
@@ -143,31 +115,15 @@ fn tacked_by(done: &Done) -> Option<usize>
 fn has_ended(all: &[Done], way: End, slip: usize) -> bool
     ensures { result ≡ has_ended way slip all.now }
 {
-    let mut ended = false;
-    for done in all.iter() {
-        if ends(done, way, slip) {
-            ended = true;
-        }
-    }
-    ended
+    all.iter().any(|done| ends(done, way, slip))
 }
 
 fn ends(done: &Done, way: End, slip: usize) -> bool
     ensures { result ≡ ends way slip done.now }
 {
-    let so = match (way, fate_of(done.answer)) {
-        (End::Pressed, Fate::Pressed) => true,
-        (End::Voided, Fate::Voided) => true,
-        _ => false,
-    };
-    so && names(done.call, slip)
-}
-
-fn names(call: Call, slip: usize) -> bool
-    ensures { result ≡ is slip (slip_of call) }
-{
-    match slip_of(call) {
-        Some(named) => named == slip,
-        None => false,
-    }
+    let so = matches!(
+        (way, fate_of(done.answer)),
+        (End::Pressed, Fate::Pressed) | (End::Voided, Fate::Voided)
+    );
+    so && slip_of(done.call) == Some(slip)
 }

@@ -9,7 +9,7 @@ use Rattle.plates.specs.declared.turnings.Turning.{Turning}
 use Rattle.plates.specs.declared.verdicts.Verdict.{Verdict}
 use Rattle.choice.specs.Choosing.{Fits}
 use Rattle.yard.specs.declared.bins.Bin.{Bin}
-use Rattle.yard.specs.declared.slips.DrawnSlip.{DrawnSlip}
+use Rattle.yard.specs.Slips.{DrawnSlip}
 use Rattle.yard.specs.Counts.{Count, empty, at}
 use Rattle.yard.specs.Calls.{Drew, Slipped, Told, has_place, in_yard}
 use Rattle.yard.specs.Runs.{Event, Ran, received, drawn, handed_back, pressed}
@@ -74,7 +74,7 @@ next (Err e) verdict shows stamp es counts joint r after b h = h.0
 next (Ok u) verdict shows stamp es counts joint (Ok slip) after b h =
     let best = least_on_hand verdict shows stamp es counts joint slip after b h in
     record {
-      refused = λ e q. let z : ◌≡◌ {A = ℕ} 0 1 = cc in absurd (omega arith);
+      refused = λ e q. cc;
       nothing_fits = λ none. absurd (none slip.numbers.place slip.numbers.turning best.plate best.passing);
       defined = λ other q. let same : slip ≡ other = cc in subst (λ s. Slipped verdict shows stamp counts joint s.numbers after) same h;
       best = λ other q. let same : slip ≡ other = cc in subst (λ s. LeastOnHand verdict shows es s.numbers) same best;
@@ -84,8 +84,8 @@ next (Ok u) verdict shows stamp es counts joint (Err x) after b h =
     record {
       refused = λ e q. (let same : x ≡ e = cc in sym same ∙ h.0, none);
       nothing_fits = λ _. ap Err h.0;
-      defined = λ slip q. let z : ◌≡◌ {A = ℕ} 0 1 = cc in absurd (omega arith);
-      best = λ slip q. let z : ◌≡◌ {A = ℕ} 0 1 = cc in absurd (omega arith);
+      defined = λ slip q. cc;
+      best = λ slip q. cc;
     }
 
 balanced : (places : ℕ) (es : List Event) (counts : List Count) (k : ℕ) (r : Result Bin Refusal) → Books es counts → k < 256 → k < places → Told places counts k r → Balanced es k r
@@ -94,7 +94,7 @@ balanced places es counts k (Err e) b h l t =
     let is : has_place places k ≡ true = grind (arith, nat_tests) in
     let not : has_place places k ≡ false = t.0 in
     let z : true ≡ false = sym is ∙ not in
-    let w : ◌≡◌ {A = ℕ} 0 1 = cc in omega arith
+    cc
 
 pub the_law : (places : ℕ) (shows : ℕ → Option Size) (stamp : ℕ) → Law places shows stamp (replicate 256 empty)
 the_law places shows stamp es counts ran =

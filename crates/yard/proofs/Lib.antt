@@ -4,4 +4,3 @@ mod Books
 mod Racks
 mod Replaying
 mod Taken
-mod Hanging

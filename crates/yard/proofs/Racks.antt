@@ -1,82 +1,70 @@
 -- A hook of the rack, taken down and hung again.
-use Rattle.std.proofs.Common.{◌≡◌, ℕ, ◌<◌, ◌≤◌, List, [], ◌∷◌, ◌++◌, map, length, get_or, set, Some, Option, Result, sym, refl, ap, ◌∙◌, subst, inl, inr, arith}
-use Rattle.std.specs.List.{slice_get}
-use Rattle.std.proofs.lemmas.List.{get_or_default, get_or-map, get_or_past, get_or-set_same, length-map, length-set}
-use Rattle.std.proofs.lemmas.Option.{slice_get-get_or, slice_get_past}
+use Rattle.std.proofs.Common.{◌≡◌, ℕ, ◌<◌, ◌≤◌, List, [], ◌∷◌, ◌++◌, length, set, take, drop, Result, Ok, Err, MatchResult, MutBor, sym, refl, ap, ◌∙◌, subst, inl, inr, append-nil, arith}
+use Rattle.std.specs.Fn.{Once}
+use Rattle.std.proofs.lemmas.List.{get_or_past, length-drop, nil_from_length, set_past, take_all}
 use Rattle.std.proofs.lemmas.Bool.{cases_lt}
-use Rattle.plates.specs.Size.{Size}
-use Rattle.plates.specs.declared.refusals.Refusal.{Refusal}
-use Rattle.plates.specs.declared.turnings.Turning.{Turning}
-use Rattle.plates.specs.declared.verdicts.Verdict.{Verdict}
-use Rattle.yard.specs.declared.slips.DrawnSlip.{DrawnSlip}
-use Rattle.yard.specs.declared.slips.TackedSlip.{TackedSlip}
+use Rattle.yard.specs.Slips.{DrawnSlip, TackedSlip}
 use Rattle.yard.specs.declared.slips.TurnedAway.{TurnedAway}
+use Rattle.yard.specs.declared.yards.Yard.{Yard}
 use Rattle.yard.specs.declared.replays.Answer.{Answer}
 use Rattle.yard.specs.declared.replays.Answer.TheVariants as answer
 use Rattle.yard.specs.declared.replays.Hook.{Hook}
 use Rattle.yard.specs.declared.replays.Hook.TheVariants.{Drawn, Tacked, Empty}
-use Rattle.yard.specs.declared.replays.Use.{Use}
-use Rattle.yard.specs.declared.replays.Use.TheVariants.{Tack, HandBack, Press, Void}
-use Rattle.yard.specs.Counts.{Count}
-use Rattle.yard.specs.Calls.{Drew, HandedBack, Pressed}
-use Rattle.yard.specs.Runs.{Event, drawing, hand_back, pressing}
-use Rattle.yard.specs.Replays.{Draws, HandsBack, Presses, State, Uses, hooked, hung, kept, means, noted, told_off}
+use Rattle.yard.specs.Counts.{Count, told}
+use Rattle.yard.specs.Calls.{HandedBack, Pressed}
+use Rattle.yard.specs.Runs.{Event, hand_back, pressing}
+use Rattle.yard.specs.Replays.{HandsBack, OnHook, Presses, hung, kept, told_off}
+use Rattle.yard.specs.Steps.{StepReturns}
+use Rattle.yard.specs.Yards.{state}
 
--- a hook is empty once what hung there was taken down
-pub taken_down : (rack : List Hook) (i : ℕ) → hung (set rack i Empty) i ≡ Empty
-taken_down rack i =
+-- what is left on a hook, by what became of its slip
+pub kept_is : {S : Type 0} (hook : S → Hook) (r : Result (Unit {0}) (TurnedAway S)) (left : Hook) → MatchResult r (λ _. left ≡ Empty) (λ t. S × (left ≡ hook t.slip)) → left ≡ kept hook r
+kept_is hook (Ok u) left e = e
+kept_is hook (Err t) left e = e.1
+
+pub hands_back : (stamp : ℕ) (slip : DrawnSlip) (held : Hook) (before after : List Count) (r : Result (Unit {0}) (TurnedAway DrawnSlip)) (left : Hook) (a : Answer)
+    → held ≡ Drawn slip → HandedBack stamp before slip r after → left ≡ kept Drawn r → a ≡ answer.HandedBack (told_off r) → (made : List Event) × HandsBack stamp held before a made left after
+hands_back stamp slip held before after r left a e h stays said = rw e (hand_back slip r ∷ [], (r, (h, stays, said, refl)))
+
+pub presses : (stamp : ℕ) (slip : TackedSlip) (held : Hook) (before after : List Count) (r : Result (Unit {0}) (TurnedAway TackedSlip)) (left : Hook) (a : Answer)
+    → held ≡ Tacked slip → Pressed stamp before slip r after → left ≡ kept Tacked r → a ≡ answer.Pressed (told_off r) → (made : List Event) × Presses stamp held before a made left after
+presses stamp slip held before after r left a e h stays said = rw e (pressing slip r ∷ [], (r, (h, stays, said, refl)))
+
+-- a slice that was lent of a whole list comes back as the list
+lent_back : (n : ℕ) (new old : List Hook) → length new ≡ n → length old ≡ n → take n (new ++ drop (length new) old) ≡ new
+lent_back n new old e f =
+    let none : drop (length new) old ≡ [] = nil_from_length (drop (length new) old) (omega (arith, length-drop (length new) old)) in
+    ap (λ l. take n (new ++ l)) none ∙ ap (take n) (append-nil new) ∙ take_all n new (omega arith)
+
+-- a step ran on what hangs on a hook of the rack, or there is no such hook
+pub on_hook : {P F : Type 0} (g : Once F (MutBor (Yard P) × (Hook × Unit {0})) ((Hook × Answer) × (MutBor (Yard P) × Unit {0}))) (step : F) (Uses : ℕ → Hook → List Count → Answer → List Event → Hook → List Count → Type 0) (yard yard' : Yard P) (items rack rack' : List Hook) (i n : ℕ) (a : Answer)
+    → ((counts : List Count) → Uses yard.stamp Empty counts answer.NoSlip [] Empty counts)
+    → rack ≡ items → length rack' ≡ n → length items ≡ n
+    → (length rack ≤ i → (a ≡ answer.NoSlip) × (yard' ≡ yard) × (rack' ≡ rack))
+    → (i < length rack → (left : Hook) × StepReturns g step yard (hung rack i) (left, a) yard' × (rack' ≡ set rack i left))
+    → ((y : MutBor (Yard P)) (held left : Hook) (said : Answer) (y' : MutBor (Yard P)) → g.post step (y, (held, tt)) ((left, said), (y', tt)) → (made : List Event) × Uses y.now.stamp held (told y.now.bins) said made left (told y'.now.bins))
+    → (made : List Event) × OnHook (Uses yard.stamp) i (state yard items) a made (state yard' (take n (rack' ++ drop (length rack') items)))
+on_hook {P} g step Uses yard yard' items rack rack' i n a empty whole len all none used gives =
+    let back = lent_back n rack' items len all in
     elim (cases_lt i (length rack)) [
-      | inl h ↦ get_or-set_same rack i Empty Empty h
-      | inr h ↦ get_or_past (set rack i Empty) i Empty (omega (arith, length-set rack i Empty))
+      | inl h ↦
+          let u = used h in
+          let m = gives u.1.shown (hung rack i) u.0 a u.1.left u.1.met in
+          let at-first = subst (λ (y : Yard P). Uses y.stamp (hung rack i) (told y.bins) a m.0 u.0 (told u.1.left.now.bins)) u.1.shows m.1 in
+          let then = subst (λ (y : Yard P). Uses yard.stamp (hung rack i) (told yard.bins) a m.0 u.0 (told y.bins)) u.1.leaves at-first in
+          (m.0, (u.0, (subst (λ l. Uses yard.stamp (hung l i) (told yard.bins) a m.0 u.0 (told yard'.bins)) whole then, back ∙ u.2 ∙ ap (λ l. set l i u.0) whole)))
+      | inr h ↦
+          let z = none h in
+          let past : length items ≤ i = omega (arith, h, ap length whole) in (
+            [],
+            (
+              Empty,
+              (
+                subst (λ (c : List Count). Uses yard.stamp (hung items i) (told yard.bins) a [] Empty c) (sym (ap (λ (y : Yard P). told y.bins) z.1))
+                    (subst (λ x. Uses yard.stamp (hung items i) (told yard.bins) x [] Empty (told yard.bins)) (sym z.0)
+                    (subst (λ x. Uses yard.stamp x (told yard.bins) answer.NoSlip [] Empty (told yard.bins)) (sym (get_or_past items i Empty past)) (empty (told yard.bins)))),
+                back ∙ z.2 ∙ whole ∙ sym (set_past items i Empty past),
+              ),
+            ),
+          )
     ]
-
--- no slip is used where there is none, and nothing is left there
-pub none_left : (stamp : ℕ) (way : Use) (before after : List Count) (a : Answer) (made : List Event) (left : Hook) → Uses stamp way Empty before a made left after → left ≡ Empty
-none_left stamp Tack before after a made left h = h.0
-none_left stamp HandBack before after a made left h = h.0
-none_left stamp Press before after a made left h = h.0
-none_left stamp Void before after a made left h = h.0
-
--- what hangs on a hook that is empty or is not there, when nothing is hung where there is none
-pub hook_free : (rack : List Hook) (i : ℕ) (held : Hook) → hung rack i ≡ Empty → (length rack ≤ i → held ≡ Empty) → get_or rack i held ≡ Empty
-hook_free rack i held free there =
-    elim (cases_lt i (length rack)) [
-      | inl h ↦ get_or_default rack i held Empty h ∙ free
-      | inr h ↦ get_or_past rack i held h ∙ there h
-    ]
-
--- where there is no hook nothing is left to hang
-pub none_there : (stamp : ℕ) (way : Use) (rack : List Hook) (i : ℕ) (held : Hook) (before after : List Count) (a : Answer) (made : List Event) (left : Hook)
-    → held ≡ hung rack i → length rack ≤ i → Uses stamp way held before a made left after → left ≡ Empty
-none_there stamp way rack i held before after a made left e h u =
-    none_left stamp way before after a made left (subst (λ x. Uses stamp way x before a made left after) (e ∙ get_or_past rack i Empty h) u)
-
-pub hands_back : (stamp : ℕ) (slip : DrawnSlip) (held : Hook) (before after : List Count) (r : Result (Unit {0}) (TurnedAway DrawnSlip)) → held ≡ Drawn slip → HandedBack stamp before slip r after
-    → (made : List Event) × HandsBack stamp held before (answer.HandedBack (told_off r)) made (kept Drawn r) after
-hands_back stamp slip held before after r e h =
-    (hand_back slip r ∷ [], subst (λ x. HandsBack stamp x before (answer.HandedBack (told_off r)) (hand_back slip r ∷ []) (kept Drawn r) after) (sym e) (r, (h, refl, refl, refl)))
-
-pub presses : (stamp : ℕ) (slip : TackedSlip) (held : Hook) (before after : List Count) (r : Result (Unit {0}) (TurnedAway TackedSlip)) → held ≡ Tacked slip → Pressed stamp before slip r after
-    → (made : List Event) × Presses stamp held before (answer.Pressed (told_off r)) made (kept Tacked r) after
-presses stamp slip held before after r e h =
-    (pressing slip r ∷ [], subst (λ x. Presses stamp x before (answer.Pressed (told_off r)) (pressing slip r ∷ []) (kept Tacked r) after) (sym e) (r, (h, refl, refl, refl)))
-
--- the joint of the list that a drawing names
-pub draws : {J : Type 0} (standing : J → Result (Unit {0}) Refusal) (verdict : J → Size → Turning → Verdict) (joints : List J) (j : ℕ) (joint : J) (shows : ℕ → Option Size) (stamp number : ℕ) (before : State) (r : Result DrawnSlip Refusal) (after : State)
-    → j < length joints → joint ≡ get_or joints j joint → Drew (standing joint) (verdict joint) shows stamp before.counts number r after.counts → after.rack ≡ before.rack ++ hooked r
-    → (made : List Event) × Draws shows stamp (slice_get (map (means standing verdict) joints) j) number before (answer.Drawn (noted r)) made after
-draws standing verdict joints j joint shows stamp number before r after h is drew put =
-    let f = means standing verdict in
-    let one : Event = drawing (standing joint) (verdict joint) number r in
-    let within : j < length (map f joints) = simp length-map h in
-    let found : slice_get (map f joints) j ≡ Some (f joint) =
-    slice_get-get_or (map f joints) j (f joint) within ∙ ap Some (get_or-map f joints j joint (f joint) h) ∙ ap (λ x. Some (f x)) (sym is)
-    in
-    (one ∷ [], subst (λ o. Draws shows stamp o number before (answer.Drawn (noted r)) (one ∷ []) after) (sym found) (r, (drew, refl, refl, put)))
-
-pub draws_none : {J : Type 0} (standing : J → Result (Unit {0}) Refusal) (verdict : J → Size → Turning → Verdict) (joints : List J) (j : ℕ) (shows : ℕ → Option Size) (stamp number : ℕ) (before : State)
-    → length joints ≤ j → (made : List Event) × Draws shows stamp (slice_get (map (means standing verdict) joints) j) number before answer.NoJoint made before
-draws_none standing verdict joints j shows stamp number before h =
-    let f = means standing verdict in
-    let past : length (map f joints) ≤ j = simp length-map h in
-    ([], subst (λ o. Draws shows stamp o number before answer.NoJoint [] before) (sym (slice_get_past (map f joints) j past)) (refl, refl, refl))

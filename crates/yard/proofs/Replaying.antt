@@ -8,11 +8,9 @@ use Rattle.yard.specs.declared.replays.Call.{Call}
 use Rattle.yard.specs.declared.replays.Call.TheVariants as call
 use Rattle.yard.specs.declared.replays.Hook.{Hook}
 use Rattle.yard.specs.declared.replays.Hook.TheVariants.{Drawn, Tacked, Empty}
-use Rattle.yard.specs.declared.replays.Use.{Use}
-use Rattle.yard.specs.declared.replays.Use.TheVariants.{Tack, HandBack, Press, Void}
 use Rattle.yard.specs.Counts.{Count, empty}
 use Rattle.yard.specs.Runs.{Event, Ran, Step, receipt, drawing, hand_back, pressing, telling}
-use Rattle.yard.specs.Replays.{Does, Draws, Means, Replayed, Replays, State, Uses, hung}
+use Rattle.yard.specs.Replays.{Does, Draws, HandsBack, Means, Presses, Replayed, Replays, State, Stays, Tacks, Voids, hung}
 use Rattle.yard.proofs.Books.{the_law}
 
 -- what has been done when there are these answers
@@ -37,20 +35,33 @@ draws_ran places shows stamp None number before a made after h = ran_none places
 draws_ran places shows stamp (Some joint) number before a made after h =
     ran_one places shows stamp before.counts after.counts made (drawing joint.standing joint.verdict number h.0) h.1.2 h.1.0
 
-uses_ran : (places : ℕ) (shows : ℕ → Option Size) (stamp : ℕ) (way : Use) (held : Hook) (before after : List Count) (a : Answer) (made : List Event) (left : Hook)
-    → Uses stamp way held before a made left after → Ran places shows stamp before made after
-uses_ran places shows stamp Tack (Drawn slip) before after a made left h = ran_none places shows stamp before after made h.1.3 h.1.4
-uses_ran places shows stamp Tack (Tacked slip) before after a made left h = ran_none places shows stamp before after made h.2 h.3
-uses_ran places shows stamp Tack Empty before after a made left h = ran_none places shows stamp before after made h.2 h.3
-uses_ran places shows stamp HandBack (Drawn slip) before after a made left h = ran_one places shows stamp before after made (hand_back slip h.0) h.1.3 h.1.0
-uses_ran places shows stamp HandBack (Tacked slip) before after a made left h = ran_none places shows stamp before after made h.2 h.3
-uses_ran places shows stamp HandBack Empty before after a made left h = ran_none places shows stamp before after made h.2 h.3
-uses_ran places shows stamp Press (Drawn slip) before after a made left h = ran_none places shows stamp before after made h.2 h.3
-uses_ran places shows stamp Press (Tacked slip) before after a made left h = ran_one places shows stamp before after made (pressing slip h.0) h.1.3 h.1.0
-uses_ran places shows stamp Press Empty before after a made left h = ran_none places shows stamp before after made h.2 h.3
-uses_ran places shows stamp Void (Drawn slip) before after a made left h = ran_none places shows stamp before after made h.2 h.3
-uses_ran places shows stamp Void (Tacked slip) before after a made left h = ran_none places shows stamp before after made h.2 h.3
-uses_ran places shows stamp Void Empty before after a made left h = ran_none places shows stamp before after made h.2 h.3
+stays_ran : (places : ℕ) (shows : ℕ → Option Size) (stamp : ℕ) (held : Hook) (before after : List Count) (a : Answer) (made : List Event) (left : Hook)
+    → Stays held before a made left after → Ran places shows stamp before made after
+stays_ran places shows stamp held before after a made left h = ran_none places shows stamp before after made h.2 h.3
+
+tacks_ran : (places : ℕ) (shows : ℕ → Option Size) (stamp : ℕ) (held : Hook) (before after : List Count) (a : Answer) (made : List Event) (left : Hook)
+    → Tacks held before a made left after → Ran places shows stamp before made after
+tacks_ran places shows stamp (Drawn slip) before after a made left h = ran_none places shows stamp before after made h.1.3 h.1.4
+tacks_ran places shows stamp (Tacked slip) before after a made left h = stays_ran places shows stamp (Tacked slip) before after a made left h
+tacks_ran places shows stamp Empty before after a made left h = stays_ran places shows stamp Empty before after a made left h
+
+hands_back_ran : (places : ℕ) (shows : ℕ → Option Size) (stamp : ℕ) (held : Hook) (before after : List Count) (a : Answer) (made : List Event) (left : Hook)
+    → HandsBack stamp held before a made left after → Ran places shows stamp before made after
+hands_back_ran places shows stamp (Drawn slip) before after a made left h = ran_one places shows stamp before after made (hand_back slip h.0) h.1.3 h.1.0
+hands_back_ran places shows stamp (Tacked slip) before after a made left h = stays_ran places shows stamp (Tacked slip) before after a made left h
+hands_back_ran places shows stamp Empty before after a made left h = stays_ran places shows stamp Empty before after a made left h
+
+presses_ran : (places : ℕ) (shows : ℕ → Option Size) (stamp : ℕ) (held : Hook) (before after : List Count) (a : Answer) (made : List Event) (left : Hook)
+    → Presses stamp held before a made left after → Ran places shows stamp before made after
+presses_ran places shows stamp (Drawn slip) before after a made left h = stays_ran places shows stamp (Drawn slip) before after a made left h
+presses_ran places shows stamp (Tacked slip) before after a made left h = ran_one places shows stamp before after made (pressing slip h.0) h.1.3 h.1.0
+presses_ran places shows stamp Empty before after a made left h = stays_ran places shows stamp Empty before after a made left h
+
+voids_ran : (places : ℕ) (shows : ℕ → Option Size) (stamp : ℕ) (held : Hook) (before after : List Count) (a : Answer) (made : List Event) (left : Hook)
+    → Voids held before a made left after → Ran places shows stamp before made after
+voids_ran places shows stamp (Drawn slip) before after a made left h = ran_none places shows stamp before after made h.2 h.3
+voids_ran places shows stamp (Tacked slip) before after a made left h = ran_none places shows stamp before after made h.2 h.3
+voids_ran places shows stamp Empty before after a made left h = stays_ran places shows stamp Empty before after a made left h
 
 does_ran : (joints : List Means) (places : ℕ) (shows : ℕ → Option Size) (stamp : ℕ) (c : Call) (before : State) (a : Answer) (made : List Event) (after : State)
     → Does joints places shows stamp c before a made after → Ran places shows stamp before.counts made after.counts
@@ -58,13 +69,13 @@ does_ran joints places shows stamp (call.Receive k pairs) before a made after h 
     ran_one places shows stamp before.counts after.counts made (receipt k pairs h.0) h.1.2 h.1.0
 does_ran joints places shows stamp (call.Draw j number) before a made after h = draws_ran places shows stamp (slice_get joints j) number before a made after h
 does_ran joints places shows stamp (call.Tack i) before a made after h =
-    uses_ran places shows stamp Tack (hung before.rack i) before.counts after.counts a made h.0 h.1.0
+    tacks_ran places shows stamp (hung before.rack i) before.counts after.counts a made h.0 h.1.0
 does_ran joints places shows stamp (call.HandBack i) before a made after h =
-    uses_ran places shows stamp HandBack (hung before.rack i) before.counts after.counts a made h.0 h.1.0
+    hands_back_ran places shows stamp (hung before.rack i) before.counts after.counts a made h.0 h.1.0
 does_ran joints places shows stamp (call.Press i) before a made after h =
-    uses_ran places shows stamp Press (hung before.rack i) before.counts after.counts a made h.0 h.1.0
+    presses_ran places shows stamp (hung before.rack i) before.counts after.counts a made h.0 h.1.0
 does_ran joints places shows stamp (call.Void i) before a made after h =
-    uses_ran places shows stamp Void (hung before.rack i) before.counts after.counts a made h.0 h.1.0
+    voids_ran places shows stamp (hung before.rack i) before.counts after.counts a made h.0 h.1.0
 does_ran joints places shows stamp (call.Tell k) before a made after h =
     ran_one places shows stamp before.counts after.counts made (telling k h.0) h.1.2 (h.1.0, ap (λ s. s.counts) h.1.3)
 

@@ -7,10 +7,10 @@ use Rattle.plates.specs.declared.refusals.Refusal.{Refusal}
 use Rattle.plates.specs.declared.turnings.Turning.{Turning}
 use Rattle.plates.specs.declared.verdicts.Verdict.{Verdict}
 use Rattle.yard.specs.declared.bins.Bin.{Bin}
-use Rattle.yard.specs.declared.slips.DrawnSlip.{DrawnSlip}
+use Rattle.yard.specs.Slips.{DrawnSlip}
 use Rattle.yard.specs.declared.slips.SlipNumbers.{SlipNumbers}
 use Rattle.yard.specs.Counts.{Count, counted, told, empty, at, with_more, moved_out}
-use Rattle.yard.specs.Calls.{Candidate, Drew, Found, Receipt, Received, Settled, Slipped, has_place, in_yard, receipt_fault, slip_fault}
+use Rattle.yard.specs.Calls.{Candidate, Drew, Found, err_or_ok, Receipt, Received, Settled, Slipped, has_place, in_yard, receipt_fault, slip_fault}
 
 pub at_told : (bins : List Bin) (k : ℕ) (d : Bin) → k < length bins → counted (get_or bins k d) ≡ at (told bins) k
 at_told bins k d h = sym (get_or-map counted bins k d empty h)
@@ -21,8 +21,13 @@ told_set bins k b new e = map-set counted bins k b ∙ ap (λ c. set (told bins)
 -- of two tests, one after the other, of which neither refused, both were met
 passed : (a b : Bool) (first second : Refusal) → None ≡ cond a (cond b None (Some second)) (Some first) → (a ≡ true) × (b ≡ true)
 passed true true x y e = (refl, refl)
-passed true false x y e = let z : ◌≡◌ {A = ℕ} 0 1 = cc in absurd (omega arith)
-passed false b x y e = let z : ◌≡◌ {A = ℕ} 0 1 = cc in absurd (omega arith)
+passed true false x y e = cc
+passed false b x y e = cc
+
+-- a test that gave no error found no fault
+pub no_fault : (f : Option Refusal) (u : Unit {0}) → Ok u ≡ err_or_ok f → None ≡ f
+no_fault None u e = refl
+no_fault (Some x) u e = cc
 
 pub receipt_met : (places : ℕ) (shows : ℕ → Option Size) (counts : List Count) (k pairs : ℕ) → None ≡ receipt_fault places shows counts k pairs
     → (k < 256) × (k < places) × (1 ≤ pairs) × ((at counts k).on_hand + (at counts k).out + pairs ≤ 60000)
@@ -40,7 +45,7 @@ slip_met stamp counts slip e =
 
 held : (a : Bool) (o : Option Size) (s : Size) → cond a o None ≡ Some s → (a ≡ true) × (o ≡ Some s)
 held true o s e = (refl, e)
-held false o s e = let z : ◌≡◌ {A = ℕ} 0 1 = cc in absurd (omega arith)
+held false o s e = cc
 
 -- what the yard shows is the pile's plate, with a pair on hand
 pub in_yard_held : (shows : ℕ → Option Size) (counts : List Count) (k : ℕ) (s : Size) → in_yard shows counts k ≡ Some s
@@ -59,34 +64,21 @@ receipt_taken places shows bins k pairs d b full e w =
     subst (λ f. Receipt f (told bins) k pairs (Ok tt) (told (set bins k b))) e
     (refl, told_set bins k b _ (w ∙ ap (with_more pairs) (at_told bins k d h)))
 
--- A slip that is not refused is read before it ends: what was read and what it ended with are its numbers.
-pub slip_out : (numbers read ended : SlipNumbers) (stamp : ℕ) (bins : List Bin) (d : Bin) → length bins ≡ 256 → None ≡ slip_fault stamp (told bins) read → read ≡ numbers → ended ≡ numbers
-    → 0 < (get_or bins ended.place d).out
-slip_out numbers read ended stamp bins d full e r s =
-    let m = slip_met stamp (told bins) ended (e ∙ ap (slip_fault stamp (told bins)) (r ∙ sym s)) in
-    let h : ended.place < length bins = omega arith in
-    omega (arith, ap (λ n. n.out) (at_told bins ended.place d h))
-
-settled : {S : Type 0} (slip : S) (numbers : SlipNumbers) (stamp : ℕ) (bins : List Bin) (change : Count → Count) (d b : Bin) → length bins ≡ 256
-    → None ≡ slip_fault stamp (told bins) numbers → counted b ≡ change (counted (get_or bins numbers.place d))
-    → Settled (slip_fault stamp (told bins) numbers) slip (told bins) numbers.place (change (at (told bins) numbers.place)) (Ok tt) (told (set bins numbers.place b))
-settled slip numbers stamp bins change d b full e w =
-    let m = slip_met stamp (told bins) numbers e in
-    let h : numbers.place < length bins = omega arith in
-    subst (λ f. Settled f slip (told bins) numbers.place (change (at (told bins) numbers.place)) (Ok tt) (told (set bins numbers.place b))) e
-    (refl, told_set bins numbers.place b _ (w ∙ ap change (at_told bins numbers.place d h)))
-
-pub slip_settled : {S : Type 0} (slip : S) (numbers read ended : SlipNumbers) (stamp : ℕ) (bins : List Bin) (change : Count → Count) (d b : Bin) → length bins ≡ 256
-    → None ≡ slip_fault stamp (told bins) read → read ≡ numbers → ended ≡ numbers → counted b ≡ change (counted (get_or bins ended.place d))
-    → Settled (slip_fault stamp (told bins) numbers) slip (told bins) numbers.place (change (at (told bins) numbers.place)) (Ok tt) (told (set bins ended.place b))
-slip_settled slip numbers read ended stamp bins change d b full e r s w =
-    subst (λ n. Settled (slip_fault stamp (told bins) numbers) slip (told bins) numbers.place (change (at (told bins) numbers.place)) (Ok tt) (told (set bins n.place b))) (sym s)
-    (settled slip numbers stamp bins change d b full (e ∙ ap (slip_fault stamp (told bins)) r) (subst (λ n. counted b ≡ change (counted (get_or bins n.place d))) s w))
+-- a slip that is not refused ends, and the bin at its place is written
+pub slip_settled : {S : Type 0} (slip : S) (numbers : SlipNumbers) (k stamp : ℕ) (bins : List Bin) (change : Count → Count) (d b : Bin) → length bins ≡ 256
+    → slip_fault stamp (told bins) numbers ≡ None → k ≡ numbers.place → counted b ≡ change (counted (get_or bins k d))
+    → Settled (slip_fault stamp (told bins) numbers) slip (told bins) numbers.place (change (at (told bins) numbers.place)) (Ok tt) (told (set bins k b))
+slip_settled slip numbers k stamp bins change d b full e there w =
+    let m = slip_met stamp (told bins) numbers (sym e) in
+    let h : k < length bins = omega arith in
+    subst (λ n. Settled (slip_fault stamp (told bins) numbers) slip (told bins) n (change (at (told bins) n)) (Ok tt) (told (set bins k b))) there
+    (subst (λ f. Settled f slip (told bins) k (change (at (told bins) k)) (Ok tt) (told (set bins k b))) (sym e)
+    (refl, told_set bins k b _ (w ∙ ap change (at_told bins k d h))))
 
 -- a candidate found in the yard is of a pair on hand
 pub found_held : (standing : Result (Unit {0}) Refusal) (verdict : Size → Turning → Verdict) (shows : ℕ → Option Size) (bins : List Bin) (c : Candidate) (d : Bin) → length bins ≡ 256
     → Found standing verdict (in_yard shows (told bins)) (Ok c) → 0 < (get_or bins c.0 d).on_hand
-found_held (Err x) verdict shows bins c d full e = let z : ◌≡◌ {A = ℕ} 0 1 = cc in absurd (omega arith)
+found_held (Err x) verdict shows bins c d full e = cc
 found_held (Ok u) verdict shows bins c d full e =
     let m = in_yard_held shows (told bins) c.0 e.1.plate e.1.fits.0 in
     let h : c.0 < length bins = omega arith in
@@ -97,7 +89,7 @@ pub found_drawn : (standing : Result (Unit {0}) Refusal) (verdict : Size → Tur
     → slip.numbers ≡ record { stamp = stamp; place = c.0; turning = c.1; joint = joint }
     → counted b ≡ moved_out (counted (get_or bins c.0 d))
     → Drew standing verdict shows stamp (told bins) joint (Ok slip) (told (set bins c.0 b))
-found_drawn (Err x) verdict shows stamp bins joint c slip d b full e n w = let z : ◌≡◌ {A = ℕ} 0 1 = cc in absurd (omega arith)
+found_drawn (Err x) verdict shows stamp bins joint c slip d b full e n w = cc
 found_drawn (Ok u) verdict shows stamp bins joint c slip d b full e n w =
     let m = in_yard_held shows (told bins) c.0 e.1.plate e.1.fits.0 in
     let h : c.0 < length bins = omega arith in

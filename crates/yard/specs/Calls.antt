@@ -8,9 +8,8 @@ use Rattle.plates.specs.declared.turnings.Turning.{Turning}
 use Rattle.plates.specs.declared.verdicts.Verdict.{Verdict}
 use Rattle.choice.specs.Choosing.{Fits, Least}
 use Rattle.yard.specs.declared.bins.Bin.{Bin}
-use Rattle.yard.specs.declared.slips.DrawnSlip.{DrawnSlip}
+use Rattle.yard.specs.Slips.{DrawnSlip, TackedSlip}
 use Rattle.yard.specs.declared.slips.SlipNumbers.{SlipNumbers}
-use Rattle.yard.specs.declared.slips.TackedSlip.{TackedSlip}
 use Rattle.yard.specs.declared.slips.TurnedAway.{TurnedAway}
 use Rattle.yard.specs.Counts.{Count, counted, at, room_for, with_more, moved_out, moved_back, pressed_off}
 
@@ -31,6 +30,11 @@ in_yard shows counts k = cond (nat_lt k 256 && nat_lt 0 (at counts k).on_hand) (
 abbrev pub receipt_fault : ℕ → (ℕ → Option Size) → List Count → ℕ → ℕ → Option Refusal
 receipt_fault places shows counts k pairs =
     cond (has_place places k && is_some (shows k)) (cond (room_for pairs (at counts k)) None (Some (BadReceipt k))) (Some (NoPlace k))
+
+-- a fault as the answer of a test: an error where there is one
+abbrev pub err_or_ok : Option Refusal → Result (Unit {0}) Refusal
+err_or_ok None = Ok tt
+err_or_ok (Some e) = Err e
 
 -- a refused receipt alters nothing; another adds its pairs on hand at its place
 abbrev pub Receipt : Option Refusal → List Count → ℕ → ℕ → Result (Unit {0}) Refusal → List Count → Type 0

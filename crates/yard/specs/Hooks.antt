@@ -1,6 +1,6 @@
 -- The slips that hang on a rack.
-use Rattle.std.specs.Prelude.{ℕ, ◌+◌, true, false, cond, List, [], ◌∷◌, ◌++◌, is_some, Some, None, Option}
-use Rattle.std.specs.Option.{option_to_list}
+use Rattle.std.specs.Prelude.{ℕ, true, false, List, count_by, is_some, Some, None, Option}
+use Rattle.std.specs.List.{enumerate_from, filter_map}
 use Rattle.yard.specs.declared.hooks.OpenSlip.{OpenSlip}
 use Rattle.yard.specs.declared.replays.Hook.{Hook}
 use Rattle.yard.specs.declared.replays.Hook.TheVariants.{Drawn, Tacked, Empty}
@@ -20,10 +20,8 @@ open_slip i Empty = None
 
 -- all that hang there, in the order of their hooks, the first of which is hook i
 abbrev pub open_slips : ℕ → List Hook → List OpenSlip
-open_slips i [] = []
-open_slips i (h ∷ hs) = option_to_list (open_slip i h) ++ open_slips (i + 1) hs
+open_slips i hs = filter_map (λ p. open_slip p.0 p.1) (enumerate_from i hs)
 
 -- how many hang there
 abbrev pub hanging : List Hook → ℕ
-hanging [] = 0
-hanging (h ∷ hs) = cond (is_some (written h)) 1 0 + hanging hs
+hanging = count_by (λ h. is_some (written h))

@@ -7,7 +7,7 @@ use Rattle.plates.specs.declared.turnings.Turning.{Turning}
 use Rattle.plates.specs.declared.verdicts.Verdict.{Verdict}
 use Rattle.plates.specs.declared.verdicts.Verdict.TheVariants.{Passes}
 use Rattle.yard.specs.declared.bins.Bin.{Bin}
-use Rattle.yard.specs.declared.slips.DrawnSlip.{DrawnSlip}
+use Rattle.yard.specs.Slips.{DrawnSlip}
 use Rattle.yard.specs.declared.slips.SlipNumbers.{SlipNumbers}
 use Rattle.yard.specs.Counts.{Count, counted}
 use Rattle.yard.specs.Calls.{Drew, Slipped, Told}

@@ -1,6 +1,9 @@
 pub mod Counts
+pub mod Slips
 pub mod Calls
 pub mod Runs
 pub mod Law
 pub mod Replays
 pub mod Hooks
+pub mod Yards
+pub mod Steps

@@ -7,9 +7,8 @@ use Rattle.plates.specs.declared.refusals.Refusal.{Refusal}
 use Rattle.plates.specs.declared.turnings.Turning.{Turning}
 use Rattle.plates.specs.declared.verdicts.Verdict.{Verdict}
 use Rattle.yard.specs.declared.bins.Bin.{Bin}
-use Rattle.yard.specs.declared.slips.DrawnSlip.{DrawnSlip}
+use Rattle.yard.specs.Slips.{DrawnSlip, TackedSlip}
 use Rattle.yard.specs.declared.slips.SlipNumbers.{SlipNumbers}
-use Rattle.yard.specs.declared.slips.TackedSlip.{TackedSlip}
 use Rattle.yard.specs.declared.slips.TurnedAway.{TurnedAway}
 use Rattle.yard.specs.declared.replays.Answer.{Answer}
 use Rattle.yard.specs.declared.replays.Answer.TheVariants as answer
@@ -17,8 +16,6 @@ use Rattle.yard.specs.declared.replays.Call.{Call}
 use Rattle.yard.specs.declared.replays.Call.TheVariants.{Receive, Draw, Tack, HandBack, Press, Void, Tell}
 use Rattle.yard.specs.declared.replays.Hook.{Hook}
 use Rattle.yard.specs.declared.replays.Hook.TheVariants.{Drawn, Tacked, Empty}
-use Rattle.yard.specs.declared.replays.Use.{Use}
-use Rattle.yard.specs.declared.replays.Use.TheVariants as way
 use Rattle.yard.specs.Counts.{Count, empty}
 use Rattle.yard.specs.Calls.{Drew, HandedBack, Pressed, Received, Told}
 use Rattle.yard.specs.Runs.{Event, receipt, drawing, hand_back, pressing, telling}
@@ -97,26 +94,20 @@ Voids (Drawn slip) before a made left after = (left ≡ Empty) × (a ≡ answer.
 Voids (Tacked slip) before a made left after = (left ≡ Empty) × (a ≡ answer.Voided slip.numbers) × (made ≡ []) × (after ≡ before)
 Voids Empty before a made left after = Stays Empty before a made left after
 
-abbrev pub Uses : ℕ → Use → Hook → List Count → Answer → List Event → Hook → List Count → Type 0
-Uses stamp way.Tack = Tacks
-Uses stamp way.HandBack = HandsBack stamp
-Uses stamp way.Press = Presses stamp
-Uses stamp way.Void = Voids
-
 -- a slip is taken from its hook and used, and what is left is hung there again
-abbrev pub OnHook : ℕ → Use → ℕ → State → Answer → List Event → State → Type 0
-OnHook stamp purpose i before a made after =
-    (left : Hook) × (Uses stamp purpose (hung before.rack i) before.counts a made left after.counts × (after.rack ≡ slice_set before.rack i left))
+abbrev pub OnHook : (Hook → List Count → Answer → List Event → Hook → List Count → Type 0) → ℕ → State → Answer → List Event → State → Type 0
+OnHook Uses i before a made after =
+    (left : Hook) × (Uses (hung before.rack i) before.counts a made left after.counts × (after.rack ≡ slice_set before.rack i left))
 
 -- one call: its answer, the event that it makes if it reaches the yard, and the state after it
 abbrev pub Does : List Means → ℕ → (ℕ → Option Size) → ℕ → Call → State → Answer → List Event → State → Type 0
 Does joints places shows stamp (Receive k pairs) before a made after =
     (r : Result (Unit {0}) Refusal) × (Received places shows before.counts k pairs r after.counts × (a ≡ answer.Received r) × (made ≡ receipt k pairs r ∷ []) × (after.rack ≡ before.rack))
 Does joints places shows stamp (Draw j number) before a made after = Draws shows stamp (slice_get joints j) number before a made after
-Does joints places shows stamp (Tack i) before a made after = OnHook stamp way.Tack i before a made after
-Does joints places shows stamp (HandBack i) before a made after = OnHook stamp way.HandBack i before a made after
-Does joints places shows stamp (Press i) before a made after = OnHook stamp way.Press i before a made after
-Does joints places shows stamp (Void i) before a made after = OnHook stamp way.Void i before a made after
+Does joints places shows stamp (Tack i) before a made after = OnHook Tacks i before a made after
+Does joints places shows stamp (HandBack i) before a made after = OnHook (HandsBack stamp) i before a made after
+Does joints places shows stamp (Press i) before a made after = OnHook (Presses stamp) i before a made after
+Does joints places shows stamp (Void i) before a made after = OnHook Voids i before a made after
 Does joints places shows stamp (Tell k) before a made after =
     (r : Result Bin Refusal) × (Told places before.counts k r × (a ≡ answer.Told r) × (made ≡ telling k r ∷ []) × (after ≡ before))
 

@@ -5,8 +5,7 @@ use Rattle.plates.specs.declared.refusals.Refusal.{Refusal}
 use Rattle.plates.specs.declared.turnings.Turning.{Turning}
 use Rattle.plates.specs.declared.verdicts.Verdict.{Verdict}
 use Rattle.yard.specs.declared.bins.Bin.{Bin}
-use Rattle.yard.specs.declared.slips.DrawnSlip.{DrawnSlip}
-use Rattle.yard.specs.declared.slips.TackedSlip.{TackedSlip}
+use Rattle.yard.specs.Slips.{DrawnSlip, TackedSlip}
 use Rattle.yard.specs.declared.slips.TurnedAway.{TurnedAway}
 use Rattle.yard.specs.Counts.{Count}
 use Rattle.yard.specs.Calls.{Drew, HandedBack, Pressed, Received, Told}

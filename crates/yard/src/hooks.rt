@@ -52,20 +52,17 @@ impl Hook {
 pub fn open_slips(heap: Global, rack: &[Hook]) -> Result<Vec<OpenSlip>, AllocError>
     ensures { IfOk result (λ v. v.items ≡ open_slips 0 rack.now) }
 {
-    let mut open = Vec::new(heap);
-    for (hook, held) in rack.iter().enumerate() {
-        if let Some(slip) = held.open(hook) {
-            open.push(slip)?;
-        }
-    }
-    Ok(open)
+    rack.iter()
+        .enumerate()
+        .filter_map(|(hook, held)| held.open(hook))
+        .collect(heap)
 }
 
 // Ends every slip of a rack with no yard, and says how many there were: their pairs stay out.
-pub fn void_all(rack: Vec<Hook>) -> usize
+pub fn void_all(mut rack: Vec<Hook>) -> usize
     ensures { result ≡ hanging rack.items }
 {
-    let mut rack = rack;
+    // A loop: an iterator over slips would be let go at its end, and a slip cannot be.
     let mut ended = 0;
     while let Some(hook) = rack.pop() {
         if hook.void().is_some() {

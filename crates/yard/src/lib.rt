@@ -12,5 +12,5 @@ pub use bins::Bin;
 pub use hooks::{OpenSlip, open_slips, void_all};
 pub use replays::{Answer, Call, Hook, Outcome, replay};
 pub use rooms::replay_with_room;
-pub use slips::{DrawnSlip, SlipNumbers, TackedSlip, TurnedAway};
+pub use slips::{DrawnSlip, Slip, SlipNumbers, TackedSlip, TurnedAway};
 pub use yards::Yard;

@@ -4,6 +4,7 @@
 ghost use Rattle.std.specs.Prelude.{◌≡◌};
 
 use plates::{Refusal, Turning};
+use std::marker::PhantomData;
 
 // What is written on a slip: the yard's stamp, the place of the pair, the turning that it was
 // drawn for, and the caller's number for the joint.
@@ -15,13 +16,21 @@ pub struct SlipNumbers {
     pub joint: u32,
 }
 
-pub struct DrawnSlip {
+// A slip in the state `S`.
+pub struct Slip<S> {
     numbers: SlipNumbers,
+    state: PhantomData<S>,
 }
 
-pub struct TackedSlip {
-    numbers: SlipNumbers,
-}
+// The state of a slip whose plates are not tacked on yet.
+pub struct Drawn;
+
+// The state of one whose plates are.
+pub struct Tacked;
+
+pub type DrawnSlip = Slip<Drawn>;
+
+pub type TackedSlip = Slip<Tacked>;
 
 // A call that took a slip was turned away: the slip comes back to its holder.
 pub struct TurnedAway<S> {
@@ -29,62 +38,46 @@ pub struct TurnedAway<S> {
     pub slip: S,
 }
 
-// A new slip, for a pair that a drawing has just moved out.
-pub(crate) fn drawn(numbers: SlipNumbers) -> DrawnSlip
-    ensures { result.numbers ≡ numbers }
-{
-    DrawnSlip { numbers }
-}
-
-impl DrawnSlip {
+impl<S> Slip<S> {
     pub fn numbers(&self) -> SlipNumbers
         ensures { result ≡ self.now.numbers }
     {
         self.numbers
+    }
+
+    // Ends the slip with no yard: its pair stays out.
+    pub fn void(self) -> SlipNumbers
+        ensures { result ≡ self.numbers }
+    {
+        self.end()
+    }
+
+    pub(crate) fn end(self) -> SlipNumbers
+        ensures { result ≡ self.numbers }
+    {
+        let Slip { numbers, state: _ } = self;
+        numbers
+    }
+}
+
+impl Slip<Drawn> {
+    // A new slip, for a pair that a drawing has just moved out.
+    pub(crate) fn new(numbers: SlipNumbers) -> Self
+        ensures { result.numbers ≡ numbers }
+    {
+        Slip {
+            numbers,
+            state: PhantomData,
+        }
     }
 
     // The plates are tacked on: the slip can now be pressed, and no more be handed back.
     pub fn tack(self) -> TackedSlip
         ensures { result.numbers ≡ self.numbers }
     {
-        TackedSlip {
+        Slip {
             numbers: self.end(),
+            state: PhantomData,
         }
-    }
-
-    // Ends the slip with no yard: its pair stays out.
-    pub fn void(self) -> SlipNumbers
-        ensures { result ≡ self.numbers }
-    {
-        self.end()
-    }
-
-    pub(crate) fn end(self) -> SlipNumbers
-        ensures { result ≡ self.numbers }
-    {
-        let DrawnSlip { numbers } = self;
-        numbers
-    }
-}
-
-impl TackedSlip {
-    pub fn numbers(&self) -> SlipNumbers
-        ensures { result ≡ self.now.numbers }
-    {
-        self.numbers
-    }
-
-    // Ends the slip with no yard: its pair stays out.
-    pub fn void(self) -> SlipNumbers
-        ensures { result ≡ self.numbers }
-    {
-        self.end()
-    }
-
-    pub(crate) fn end(self) -> SlipNumbers
-        ensures { result ≡ self.numbers }
-    {
-        let TackedSlip { numbers } = self;
-        numbers
     }
 }

@@ -1,18 +1,18 @@
 // The yard over a pile, and its five calls.
-ghost use Rattle.std.specs.Prelude.{◌≡◌, ◌<◌, length, replicate};
+ghost use Rattle.std.specs.Prelude.{◌≡◌, ◌<◌, length, replicate, Some, None, IfOk, IfErr};
 ghost use Rattle.yard.specs.Counts.{at, counted, empty, told};
-ghost use Rattle.yard.specs.Calls.{Drew, Found, HandedBack, Pressed, Received, Told, has_place, in_yard, receipt_fault, slip_fault};
+ghost use Rattle.yard.specs.Calls.{Drew, Found, HandedBack, Pressed, Received, Told, err_or_ok, has_place, in_yard, receipt_fault, slip_fault};
 ghost use Rattle.yard.specs.Law.{Law};
 
-use super::bins::{Bin, changes};
-use super::slips;
-use super::slips::{DrawnSlip, SlipNumbers, TackedSlip, TurnedAway};
+use super::bins::Bin;
+use super::slips::{DrawnSlip, Slip, SlipNumbers, TackedSlip, TurnedAway};
 use choice::Candidate;
 use plates::{Joint, Plate, Refusal, Supply};
 
 pub const BINS: u32 = 256;
 
 // A pile, the stamp that is written on the yard's slips, and the pairs at its first 256 places.
+// A call that changes a bin lends all of them first: the check doesn't build `self.bins[i].draw()`.
 #[derive(Drop)]
 pub struct Yard<P> {
     pile: P,
@@ -41,6 +41,8 @@ impl<P: Supply> Supply for Yard<P> {
 }
 
 impl<P: Supply> Yard<P> {
+    ghost use Rattle.yard.specs.Yards.{SamePile};
+
     // A yard with no pair on hand and none out. Whatever calls are then made on it, in any order
     // and with slips of any yard, its books balance, and the next drawing is of the least pair
     // on hand that passes.
@@ -60,56 +62,44 @@ impl<P: Supply> Yard<P> {
     // Pairs come in at a place where the pile shows a plate.
     pub fn receive(&mut self, place: u32, pairs: u32) -> Result<(), Refusal>
         ensures answer { Received (P.Supply.places self.old.pile) (P.Supply.shows self.old.pile) (told self.old.bins) place pairs result (told self.new.bins) }
-        ensures pile { self.new.pile ≡ self.old.pile }
-        ensures stamp { self.new.stamp ≡ self.old.stamp }
+        ensures same { SamePile self.old self.new }
     {
-        if let Some(refusal) = self.receipt_fault(place, pairs) {
-            return Err(refusal);
-        }
+        self.check_receipt(place, pairs)?;
         let bins = &mut self.bins;
-        changes::receive(&mut bins[place as usize], pairs);
+        bins[place as usize].receive(pairs);
         Ok(())
     }
 
     // Chooses the least plate on hand for the joint, and moves one pair of it out on a slip.
     pub fn draw<J: Joint>(&mut self, joint: &J, number: u32) -> Result<DrawnSlip, Refusal>
         ensures answer { Drew (J.Joint.standing joint.now) (J.Joint.verdict joint.now) (P.Supply.shows self.old.pile) self.old.stamp (told self.old.bins) number result (told self.new.bins) }
-        ensures pile { self.new.pile ≡ self.old.pile }
-        ensures stamp { self.new.stamp ≡ self.old.stamp }
+        ensures same { SamePile self.old self.new }
     {
         let candidate = self.least_on_hand(joint)?;
         let bins = &mut self.bins;
-        changes::draw(&mut bins[candidate.0 as usize]);
+        bins[candidate.0 as usize].draw();
         Ok(self.slip_for(candidate, number))
     }
 
     // The pair of a drawn slip comes back on hand, and the slip ends.
     pub fn hand_back(&mut self, slip: DrawnSlip) -> Result<(), TurnedAway<DrawnSlip>>
         ensures answer { HandedBack self.old.stamp (told self.old.bins) slip result (told self.new.bins) }
-        ensures pile { self.new.pile ≡ self.old.pile }
-        ensures stamp { self.new.stamp ≡ self.old.stamp }
+        ensures same { SamePile self.old self.new }
     {
-        if let Some(refusal) = self.slip_fault(slip.numbers()) {
-            return Err(TurnedAway { refusal, slip });
-        }
-        let place = slip.end().place;
+        let place = self.ended(slip)?;
         let bins = &mut self.bins;
-        changes::hand_back(&mut bins[place as usize]);
+        bins[place as usize].hand_back();
         Ok(())
     }
 
     // The pair of a tacked slip is pressed into its joint, and the slip ends.
     pub fn press(&mut self, slip: TackedSlip) -> Result<(), TurnedAway<TackedSlip>>
         ensures answer { Pressed self.old.stamp (told self.old.bins) slip result (told self.new.bins) }
-        ensures pile { self.new.pile ≡ self.old.pile }
-        ensures stamp { self.new.stamp ≡ self.old.stamp }
+        ensures same { SamePile self.old self.new }
     {
-        if let Some(refusal) = self.slip_fault(slip.numbers()) {
-            return Err(TurnedAway { refusal, slip });
-        }
-        let place = slip.end().place;
+        let place = self.ended(slip)?;
         let bins = &mut self.bins;
-        changes::press(&mut bins[place as usize]);
+        bins[place as usize].press();
         Ok(())
     }
 
@@ -134,7 +124,7 @@ impl<P: Supply> Yard<P> {
     fn slip_for(&self, candidate: Candidate, number: u32) -> DrawnSlip
         ensures { result.numbers ≡ record { stamp = self.now.stamp; place = candidate.0; turning = candidate.1; joint = number } }
     {
-        slips::drawn(SlipNumbers {
+        DrawnSlip::new(SlipNumbers {
             stamp: self.stamp,
             place: candidate.0,
             turning: candidate.1,
@@ -142,30 +132,41 @@ impl<P: Supply> Yard<P> {
         })
     }
 
-    // Why a receipt is turned away, if it is.
-    fn receipt_fault(&self, place: u32, pairs: u32) -> Option<Refusal>
-        ensures { result ≡ receipt_fault (P.Supply.places self.now.pile) (P.Supply.shows self.now.pile) (told self.now.bins) place pairs }
+    // A receipt is turned away where the yard has no such place, or no room there.
+    fn check_receipt(&self, place: u32, pairs: u32) -> Result<(), Refusal>
+        ensures { result ≡ err_or_ok (receipt_fault (P.Supply.places self.now.pile) (P.Supply.shows self.now.pile) (told self.now.bins) place pairs) }
     {
         if !self.has_place(place) || self.pile.plate(place).is_none() {
-            return Some(Refusal::NoPlace { place });
+            return Err(Refusal::NoPlace { place });
         }
         if !self.bin(place).takes(pairs) {
-            return Some(Refusal::BadReceipt { place });
+            return Err(Refusal::BadReceipt { place });
         }
-        None
+        Ok(())
     }
 
-    // Why a slip is turned away, if it is.
-    fn slip_fault(&self, slip: SlipNumbers) -> Option<Refusal>
-        ensures { result ≡ slip_fault self.now.stamp (told self.now.bins) slip }
+    // Ends a slip that is not turned away, and gives its place.
+    fn ended<S>(&self, slip: Slip<S>) -> Result<u32, TurnedAway<Slip<S>>>
+        ensures turned_away { IfErr result (λ t. (slip_fault self.now.stamp (told self.now.bins) slip.numbers ≡ Some t.refusal) × (t.slip ≡ slip)) }
+        ensures ended { IfOk result (λ k. (slip_fault self.now.stamp (told self.now.bins) slip.numbers ≡ None) × (k ≡ slip.numbers.place)) }
+    {
+        match self.check_slip(slip.numbers()) {
+            Ok(()) => Ok(slip.end().place),
+            Err(refusal) => Err(TurnedAway { refusal, slip }),
+        }
+    }
+
+    // A slip is turned away where it is of another stamp, or no pair is out at its place.
+    fn check_slip(&self, slip: SlipNumbers) -> Result<(), Refusal>
+        ensures { result ≡ err_or_ok (slip_fault self.now.stamp (told self.now.bins) slip) }
     {
         if slip.stamp != self.stamp {
-            return Some(Refusal::OtherStamp);
+            return Err(Refusal::OtherStamp);
         }
         if slip.place >= BINS || self.bin(slip.place).out() == 0 {
-            return Some(Refusal::NoneOut);
+            return Err(Refusal::NoneOut);
         }
-        None
+        Ok(())
     }
 
     fn has_place(&self, place: u32) -> bool

@@ -46,10 +46,10 @@ fn the_least_pair_on_hand_is_drawn(rt: HostRuntime) {
 fn a_pair_out_is_not_drawn(rt: HostRuntime) -> Result<(), Fail> {
     let mut yard = stocked(&rt);
     for place in [3, 2, 2, 1] {
-        match drawn(&mut yard, &ANY, 5) {
-            Ok(slip) => assert_eq!(rt; slip.place, place),
-            Err(_) => return Err(Fail::new("nothing fits")),
-        }
+        let Ok(slip) = drawn(&mut yard, &ANY, 5) else {
+            return Err(Fail::new("nothing fits"));
+        };
+        assert_eq!(rt; slip.place, place);
     }
     assert_eq!(rt; drawn(&mut yard, &ANY, 5), Err(Refusal::NothingFits));
     assert_eq!(rt; told(&yard, 2), Some((0, 2)));

@@ -1,7 +1,7 @@
 // Slips that are brought to another yard.
 use super::stock::{ANY, Pile, told};
 use std::test::Fail;
-use yard::{DrawnSlip, TackedSlip, TurnedAway, Yard};
+use yard::{DrawnSlip, Slip, TurnedAway, Yard};
 
 // A yard of three places with one pair at place 1.
 fn stocked(stamp: u32) -> Yard<Pile> {
@@ -10,34 +10,36 @@ fn stocked(stamp: u32) -> Yard<Pile> {
     yard
 }
 
-// Hands a slip back here, or where it is turned away there: what each says, 0 where it was taken.
-fn back_here_or_there(here: &mut Yard<Pile>, there: &mut Yard<Pile>, slip: DrawnSlip) -> [u8; 2] {
-    match here.hand_back(slip) {
+// Takes the least pair at place 1 out on a slip.
+fn drawn(yard: &mut Yard<Pile>, number: u32) -> Result<DrawnSlip, Fail> {
+    yard.draw(&ANY, number)
+        .map_err(|_| Fail::new("nothing fits"))
+}
+
+// Brings a slip here, or where it is turned away there: what each says, 0 where it was taken.
+fn here_or_there<S, F>(
+    call: F,
+    here: &mut Yard<Pile>,
+    there: &mut Yard<Pile>,
+    slip: Slip<S>,
+) -> [u8; 2]
+where
+    F: Fn(&mut Yard<Pile>, Slip<S>) -> Result<(), TurnedAway<Slip<S>>>,
+    requires { F.IsAlwaysCallable call }
+{
+    match call(here, slip) {
         Ok(()) => [0, 0],
-        Err(TurnedAway { refusal, slip }) => [refusal.number(), back(there, slip)],
+        Err(TurnedAway { refusal, slip }) => [refusal.number(), brought(&call, there, slip)],
     }
 }
 
-fn back(yard: &mut Yard<Pile>, slip: DrawnSlip) -> u8 {
-    match yard.hand_back(slip) {
-        Ok(()) => 0,
-        Err(TurnedAway { refusal, slip }) => {
-            let _ = slip.void();
-            refusal.number()
-        }
-    }
-}
-
-// The same for a tacked slip that is pressed.
-fn press_here_or_there(here: &mut Yard<Pile>, there: &mut Yard<Pile>, slip: TackedSlip) -> [u8; 2] {
-    match here.press(slip) {
-        Ok(()) => [0, 0],
-        Err(TurnedAway { refusal, slip }) => [refusal.number(), press(there, slip)],
-    }
-}
-
-fn press(yard: &mut Yard<Pile>, slip: TackedSlip) -> u8 {
-    match yard.press(slip) {
+// Brings a slip to a yard, and voids it where it is turned away.
+fn brought<S, F>(call: &F, yard: &mut Yard<Pile>, slip: Slip<S>) -> u8
+where
+    F: Fn(&mut Yard<Pile>, Slip<S>) -> Result<(), TurnedAway<Slip<S>>>,
+    requires { F.IsAlwaysCallable call.now }
+{
+    match call(yard, slip) {
         Ok(()) => 0,
         Err(TurnedAway { refusal, slip }) => {
             let _ = slip.void();
@@ -50,17 +52,16 @@ fn press(yard: &mut Yard<Pile>, slip: TackedSlip) -> u8 {
 fn another_stamp_is_refused_and_the_slip_comes_back(rt: HostRuntime) -> Result<(), Fail> {
     let mut own = stocked(1);
     let mut other = stocked(2);
-    let Ok(slip) = own.draw(&ANY, 4) else {
-        return Err(Fail::new("nothing fits"));
-    };
-    assert_eq!(rt; back_here_or_there(&mut other, &mut own, slip), [9, 0]);
+    let slip = drawn(&mut own, 4)?;
+    assert_eq!(rt;
+        here_or_there(Yard::hand_back, &mut other, &mut own, slip),
+        [9, 0]
+    );
     assert_eq!(rt; told(&own, 1), Some((1, 0)));
     assert_eq!(rt; told(&other, 1), Some((1, 0)));
-    let Ok(slip) = own.draw(&ANY, 4) else {
-        return Err(Fail::new("nothing fits"));
-    };
+    let slip = drawn(&mut own, 4)?;
     assert_eq!(rt;
-        press_here_or_there(&mut other, &mut own, slip.tack()),
+        here_or_there(Yard::press, &mut other, &mut own, slip.tack()),
         [9, 0]
     );
     assert_eq!(rt; told(&own, 1), Some((0, 0)));
@@ -74,18 +75,14 @@ fn the_stamp_is_compared_before_the_pairs_out(rt: HostRuntime) -> Result<(), Fai
     for (stamp, refusal) in [(2, 9), (1, 10)] {
         let mut own = stocked(1);
         let mut other = stocked(stamp);
-        let Ok(slip) = own.draw(&ANY, 4) else {
-            return Err(Fail::new("nothing fits"));
-        };
+        let slip = drawn(&mut own, 4)?;
         assert_eq!(rt;
-            back_here_or_there(&mut other, &mut own, slip),
+            here_or_there(Yard::hand_back, &mut other, &mut own, slip),
             [refusal, 0]
         );
         assert_eq!(rt; told(&other, 1), Some((1, 0)));
-        let Ok(slip) = own.draw(&ANY, 4) else {
-            return Err(Fail::new("nothing fits"));
-        };
-        assert_eq!(rt; press(&mut other, slip.tack()), refusal);
+        let slip = drawn(&mut own, 4)?;
+        assert_eq!(rt; brought(&Yard::press, &mut other, slip.tack()), refusal);
         assert_eq!(rt; told(&other, 1), Some((1, 0)));
         assert_eq!(rt; told(&own, 1), Some((0, 1)));
     }
@@ -97,16 +94,12 @@ fn the_stamp_is_compared_before_the_pairs_out(rt: HostRuntime) -> Result<(), Fai
 fn one_stamp_one_word(rt: HostRuntime) -> Result<(), Fail> {
     let mut here = stocked(7);
     let mut there = stocked(7);
-    let Ok(slip) = here.draw(&ANY, 1) else {
-        return Err(Fail::new("nothing fits"));
-    };
-    let first = back(&mut there, slip);
+    let slip = drawn(&mut here, 1)?;
+    let first = brought(&Yard::hand_back, &mut there, slip);
     assert_eq!(rt; first, 10);
     assert_eq!(rt; told(&there, 1), Some((1, 0)));
-    let Ok(slip) = there.draw(&ANY, 2) else {
-        return Err(Fail::new("nothing fits"));
-    };
-    assert_eq!(rt; back(&mut here, slip), 0);
+    let slip = drawn(&mut there, 2)?;
+    assert_eq!(rt; brought(&Yard::hand_back, &mut here, slip), 0);
     assert_eq!(rt; told(&here, 1), Some((1, 0)));
     assert_eq!(rt; told(&there, 1), Some((0, 1)));
     Ok(())
@@ -115,9 +108,7 @@ fn one_stamp_one_word(rt: HostRuntime) -> Result<(), Fail> {
 #[test]
 fn a_void_leaves_the_pair_out(rt: HostRuntime) -> Result<(), Fail> {
     let mut yard = stocked(1);
-    let Ok(slip) = yard.draw(&ANY, 4) else {
-        return Err(Fail::new("nothing fits"));
-    };
+    let slip = drawn(&mut yard, 4)?;
     let numbers = slip.tack().void();
     assert_eq!(rt; (numbers.stamp, numbers.place, numbers.joint), (1, 1, 4));
     assert_eq!(rt; told(&yard, 1), Some((0, 1)));

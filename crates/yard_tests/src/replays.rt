@@ -1,54 +1,36 @@
 // Whole lists of calls, with what each is answered.
 use super::stock::{ANY, Asks, LONG, LONGER, Pile, UNLAWFUL, told};
-use plates::Refusal;
 use std::alloc::{AllocError, Global};
+use std::fmt;
 use std::process::Abort;
 use std::test::Fail;
-use yard::{
-    Answer, Bin, Call, Hook, OpenSlip, Outcome, SlipNumbers, Yard, open_slips, replay_with_room,
-    void_all,
-};
+use yard::{Answer, Call, Hook, OpenSlip, Outcome, Yard, open_slips, replay_with_room, void_all};
 
 const JOINTS: [Asks; 4] = [ANY, LONG, LONGER, UNLAWFUL];
 
 // An answer in a few words.
-fn said(heap: Global, answer: Answer) -> Result<String, AllocError> {
-    match answer {
-        Answer::Received(done) => over(heap, "received", done),
-        Answer::Drawn(drawn) => named(heap, drawn),
-        Answer::Tacked => String::from_str(heap, "tacked"),
-        Answer::HandedBack(done) => over(heap, "back", done),
-        Answer::Pressed(done) => over(heap, "pressed", done),
-        Answer::Voided(slip) => format!(in heap; "voided for {}", slip.joint),
-        Answer::Told(told) => counted(heap, told),
-        Answer::NoSlip => String::from_str(heap, "no slip"),
-        Answer::NoJoint => String::from_str(heap, "no joint"),
-    }
-}
+#[derive(Clone, Copy)]
+struct Said(Answer);
 
-fn over(heap: Global, word: &str, done: Result<(), Refusal>) -> Result<String, AllocError> {
-    match done {
-        Ok(()) => String::from_str(heap, word),
-        Err(refusal) => refused(heap, refusal),
+impl fmt::Display for Said {
+    fn fmt<W: fmt::Write>(&self, f: &mut fmt::Formatter<W>) -> fmt::Result {
+        match self.0 {
+            Answer::Received(Ok(())) => f.write_str("received"),
+            Answer::Drawn(Ok(slip)) => write!(f, "place {} for {}", slip.place, slip.joint),
+            Answer::Tacked => f.write_str("tacked"),
+            Answer::HandedBack(Ok(())) => f.write_str("back"),
+            Answer::Pressed(Ok(())) => f.write_str("pressed"),
+            Answer::Voided(slip) => write!(f, "voided for {}", slip.joint),
+            Answer::Told(Ok(bin)) => write!(f, "{} and {}", bin.on_hand(), bin.out()),
+            Answer::NoSlip => f.write_str("no slip"),
+            Answer::NoJoint => f.write_str("no joint"),
+            Answer::Received(Err(refusal))
+            | Answer::Drawn(Err(refusal))
+            | Answer::HandedBack(Err(refusal))
+            | Answer::Pressed(Err(refusal))
+            | Answer::Told(Err(refusal)) => write!(f, "refused {}", refusal.number()),
+        }
     }
-}
-
-fn named(heap: Global, drawn: Result<SlipNumbers, Refusal>) -> Result<String, AllocError> {
-    match drawn {
-        Ok(slip) => format!(in heap; "place {} for {}", slip.place, slip.joint),
-        Err(refusal) => refused(heap, refusal),
-    }
-}
-
-fn counted(heap: Global, told: Result<Bin, Refusal>) -> Result<String, AllocError> {
-    match told {
-        Ok(bin) => format!(in heap; "{} and {}", bin.on_hand(), bin.out()),
-        Err(refusal) => refused(heap, refusal),
-    }
-}
-
-fn refused(heap: Global, refusal: Refusal) -> Result<String, AllocError> {
-    format!(in heap; "refused {}", refusal.number())
 }
 
 // What a replay came to: every slip has ended.
@@ -104,17 +86,13 @@ fn played_as(
     assert_eq!(rt; report.complete, true);
     assert_eq!(rt; report.answers.len(), table.len());
     for (answer, (_, words)) in report.answers.iter().zip(table.iter()) {
-        assert_eq!(rt; said(heap, *answer)?.as_str(), *words);
+        assert_eq!(rt; format!(in heap; "{}", Said(*answer))?.as_str(), *words);
     }
     Ok(report)
 }
 
 fn calls_of(heap: Global, table: &[(Call, &str)]) -> Result<Vec<Call>, AllocError> {
-    let mut calls = Vec::new(heap);
-    for (call, _) in table {
-        calls.push(*call)?;
-    }
-    Ok(calls)
+    table.iter().map(|(call, _)| *call).collect(heap)
 }
 
 const MIXED: [(Call, &str); 25] = [

@@ -105,8 +105,6 @@ pub(crate) fn number<T: Drop>(answer: Result<T, Refusal>) -> u8 {
 
 // The pairs on hand and out at a place of the yard.
 pub(crate) fn told<P: Supply>(yard: &Yard<P>, place: u32) -> Option<(u32, u32)> {
-    match yard.tell(place) {
-        Ok(bin) => Some((bin.on_hand(), bin.out())),
-        Err(_) => None,
-    }
+    let bin = yard.tell(place).ok()?;
+    Some((bin.on_hand(), bin.out()))
 }

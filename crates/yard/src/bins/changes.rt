@@ -1,65 +1,44 @@
-// What a bin tells, and the four changes that one is lent for.
+// The four changes that a bin is lent for.
 ghost use Rattle.std.specs.Prelude.{◌≡◌, ◌+◌, ◌<◌, ◌≤◌};
-ghost use Rattle.yard.specs.Counts.{counted, moved_back, moved_out, pressed_off, room_for, with_more};
+ghost use Rattle.yard.specs.Counts.{counted, moved_back, moved_out, pressed_off, with_more};
 
-use super::{Bin, MOST_PAIRS};
+use super::Bin;
 
 impl Bin {
-    pub(crate) const EMPTY: Bin = Bin { on_hand: 0, out: 0 };
-
-    pub fn on_hand(&self) -> u32
-        ensures { result ≡ (counted self.now).on_hand }
+    pub(crate) fn receive(&mut self, pairs: u32)
+        requires { (counted self.old).on_hand + (counted self.old).out + pairs ≤ 60000 }
+        ensures { counted self.new ≡ with_more pairs (counted self.old) }
     {
-        self.on_hand
+        self.on_hand += pairs;
     }
 
-    pub fn out(&self) -> u32
-        ensures { result ≡ (counted self.now).out }
+    // One pair goes out.
+    pub(crate) fn draw(&mut self)
+        requires { 0 < (counted self.old).on_hand }
+        ensures { counted self.new ≡ moved_out (counted self.old) }
     {
-        self.out
+        *self = Bin {
+            on_hand: self.on_hand - 1,
+            out: self.out + 1,
+        };
     }
 
-    // Whether so many pairs more may be received: some, and no more than the bin takes.
-    pub(crate) fn takes(&self, pairs: u32) -> bool
-        ensures { result ≡ room_for pairs (counted self.now) }
+    // One pair that was out comes back.
+    pub(crate) fn hand_back(&mut self)
+        requires { 0 < (counted self.old).out }
+        ensures { counted self.new ≡ moved_back (counted self.old) }
     {
-        pairs >= 1 && pairs <= MOST_PAIRS - (self.on_hand + self.out)
+        *self = Bin {
+            on_hand: self.on_hand + 1,
+            out: self.out - 1,
+        };
     }
-}
 
-pub(crate) fn receive(bin: &mut Bin, pairs: u32)
-    requires { (counted bin.old).on_hand + (counted bin.old).out + pairs ≤ 60000 }
-    ensures { counted bin.new ≡ with_more pairs (counted bin.old) }
-{
-    bin.on_hand += pairs;
-}
-
-// One pair goes out.
-pub(crate) fn draw(bin: &mut Bin)
-    requires { 0 < (counted bin.old).on_hand }
-    ensures { counted bin.new ≡ moved_out (counted bin.old) }
-{
-    *bin = Bin {
-        on_hand: bin.on_hand - 1,
-        out: bin.out + 1,
-    };
-}
-
-// One pair that was out comes back.
-pub(crate) fn hand_back(bin: &mut Bin)
-    requires { 0 < (counted bin.old).out }
-    ensures { counted bin.new ≡ moved_back (counted bin.old) }
-{
-    *bin = Bin {
-        on_hand: bin.on_hand + 1,
-        out: bin.out - 1,
-    };
-}
-
-// One pair that was out is pressed into a joint.
-pub(crate) fn press(bin: &mut Bin)
-    requires { 0 < (counted bin.old).out }
-    ensures { counted bin.new ≡ pressed_off (counted bin.old) }
-{
-    bin.out -= 1;
+    // One pair that was out is pressed into a joint.
+    pub(crate) fn press(&mut self)
+        requires { 0 < (counted self.old).out }
+        ensures { counted self.new ≡ pressed_off (counted self.old) }
+    {
+        self.out -= 1;
+    }
 }

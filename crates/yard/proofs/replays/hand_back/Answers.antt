@@ -1,22 +1,11 @@
-use Rattle.std.proofs.Common.{Ok, Err}
+use Rattle.yard.specs.declared.replays.Hook.TheVariants.{Drawn}
 use Rattle.yard.specs.Counts.{told}
-use Rattle.yard.proofs.Racks.{hands_back}
+use Rattle.yard.proofs.Racks.{hands_back, kept_is}
 use Rattle.yard.proofs.replays.hand_back.Goals as goal
 
-pub returns-in-Ok : goal.returns-in-Ok
-returns-in-Ok g c =
-    let done = c.in-Ok.ensures in
-    record {
-      answer = hands_back c.args.yard.now.stamp c.in-Drawn.slip c.args.held (told c.args.yard.now.bins) (told c.hand_back.new.self.bins) (Ok c.in-Ok.field-0) c.in-Drawn.is done.answer;
-      pile = done.pile;
-      stamp = done.stamp;
-    }
-
-pub returns-in-Err : goal.returns-in-Err
-returns-in-Err g c =
-    let done = c.in-Err.ensures in
-    record {
-      answer = hands_back c.args.yard.now.stamp c.in-Drawn.slip c.args.held (told c.args.yard.now.bins) (told c.hand_back.new.self.bins) (Err c.in-Err.field-0) c.in-Drawn.is done.answer;
-      pile = done.pile;
-      stamp = done.stamp;
-    }
+pub returns-in-Drawn-clause-answer : goal.returns-in-Drawn-clause-answer
+returns-in-Drawn-clause-answer g c =
+    let yard = c.args.yard.now in
+    let done = c.settled.ensures in
+    hands_back yard.stamp c.in-Drawn.slip c.args.held (told yard.bins) (told c.hand_back.new.self.bins) c.hand_back.result c.settled.result.0 c.settled.result.1 c.in-Drawn.is c.hand_back.ensures.answer
+    (kept_is Drawn c.hand_back.result c.settled.result.0 done.left) done.answer.1

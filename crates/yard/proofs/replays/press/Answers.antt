@@ -1,22 +1,11 @@
-use Rattle.std.proofs.Common.{Ok, Err}
+use Rattle.yard.specs.declared.replays.Hook.TheVariants.{Tacked}
 use Rattle.yard.specs.Counts.{told}
-use Rattle.yard.proofs.Racks.{presses}
+use Rattle.yard.proofs.Racks.{kept_is, presses}
 use Rattle.yard.proofs.replays.press.Goals as goal
 
-pub returns-in-Ok : goal.returns-in-Ok
-returns-in-Ok g c =
-    let done = c.in-Ok.ensures in
-    record {
-      answer = presses c.args.yard.now.stamp c.in-Tacked.slip c.args.held (told c.args.yard.now.bins) (told c.press.new.self.bins) (Ok c.in-Ok.field-0) c.in-Tacked.is done.answer;
-      pile = done.pile;
-      stamp = done.stamp;
-    }
-
-pub returns-in-Err : goal.returns-in-Err
-returns-in-Err g c =
-    let done = c.in-Err.ensures in
-    record {
-      answer = presses c.args.yard.now.stamp c.in-Tacked.slip c.args.held (told c.args.yard.now.bins) (told c.press.new.self.bins) (Err c.in-Err.field-0) c.in-Tacked.is done.answer;
-      pile = done.pile;
-      stamp = done.stamp;
-    }
+pub returns-in-Tacked-clause-answer : goal.returns-in-Tacked-clause-answer
+returns-in-Tacked-clause-answer g c =
+    let yard = c.args.yard.now in
+    let done = c.settled.ensures in
+    presses yard.stamp c.in-Tacked.slip c.args.held (told yard.bins) (told c.press.new.self.bins) c.press.result c.settled.result.0 c.settled.result.1 c.in-Tacked.is c.press.ensures.answer
+    (kept_is Tacked c.press.result c.settled.result.0 done.left) done.answer.1

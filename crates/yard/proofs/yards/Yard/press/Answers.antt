@@ -1,18 +1,9 @@
-use Rattle.std.proofs.Common.{refl}
 use Rattle.yard.specs.Counts.{pressed_off}
-use Rattle.yard.proofs.Tables.{slip_out, slip_settled}
+use Rattle.yard.proofs.Tables.{slip_settled}
 use Rattle.yard.proofs.yards.Yard.press.Goals as goal
 
-pub press-requires : goal.press-requires
-press-requires g c =
+pub returns-clause-answer : goal.returns-clause-answer
+returns-clause-answer g c =
     let yard = c.args.self.now in
-    slip_out c.args.slip.numbers c.numbers.result c.end-place.result yard.stamp yard.bins c.index-bins-place.result
-    yard.full c.in_default.ensures c.numbers.ensures c.end-place.ensures
-
-pub returns : goal.returns
-returns g c =
-    let yard = c.args.self.now in
-    let answer = slip_settled c.args.slip c.args.slip.numbers c.numbers.result c.end-place.result yard.stamp yard.bins pressed_off c.index-bins-place.result c.press.new.bin
-    yard.full c.in_default.ensures c.numbers.ensures c.end-place.ensures c.press.ensures
-    in
-    record { answer = answer; pile = refl {a = yard.pile}; stamp = refl {a = yard.stamp} }
+    let ended = c.in_ok-place.ensures.ended in
+    slip_settled c.args.slip c.args.slip.numbers c.in_ok-place.place yard.stamp yard.bins pressed_off c.index-bins-place.result c.press.new.self yard.full ended.0 ended.1 c.press.ensures
