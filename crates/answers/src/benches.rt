@@ -60,3 +60,11 @@ fn failed(rt: &HostRuntime, bench: Bench, source: &Source, cause: &Cause) -> Exi
     let _ = eprintln!(rt; "{told}");
     ExitCode::FAILURE
 }
+
+// The answers for the text of standard input: of a fault only the exit status tells.
+pub fn checked(rt: &HostRuntime, format: Format, command: Command) -> ExitCode {
+    match answer(rt, format, command, &Source::StandardInput) {
+        Ok(()) => ExitCode::SUCCESS,
+        Err(_) => ExitCode::FAILURE,
+    }
+}

@@ -16,7 +16,7 @@ pub enum Command {
 }
 
 // Reads the text and writes an answer for each of its sheets, or none where the text is at fault.
-pub fn answer(
+pub(crate) fn answer(
     rt: &HostRuntime,
     format: Format,
     command: Command,

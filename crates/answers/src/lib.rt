@@ -8,7 +8,7 @@ mod failures;
 mod wording;
 
 pub use accounts::Form;
-pub use benches::{Bench, answered};
-pub use commands::{Command, answer};
+pub use benches::{Bench, answered, checked};
+pub use commands::Command;
 pub use failures::{Cause, Source, Told, text_of};
 pub use wording::Refused;

@@ -1,13 +1,10 @@
 // Answers joints on both sides of every limit; tools/oracle.py made the text and the expected answers.
 #![tactic(auto)]
 
-use answers::{Command, Source, answer};
+use answers::{Command, checked};
 use jobs::Format;
 use std::process::ExitCode;
 
 fn main(rt: HostRuntime) -> ExitCode {
-    match answer(&rt, Format::Whole, Command::Judge, &Source::StandardInput) {
-        Ok(()) => ExitCode::SUCCESS,
-        Err(_) => ExitCode::FAILURE,
-    }
+    checked(&rt, Format::Whole, Command::Judge)
 }
