@@ -54,7 +54,7 @@ pub fn choose<J: Joint, S: Supply>(joint: &J, supply: &S) -> Result<Choice, Refu
 }
 
 impl<J: Joint, S: Supply> Survey<'_, J, S> {
-    // The least plate that passes, with every place asked.
+    // The least plate that passes, with every place asked: each question is counted as it is put.
     #[tactic(auto, using(crate::proofs::End::all_asked))]
     fn least(&self) -> Result<Choice, Refusal>
         ensures { Answered (J.verdict self.now.joint.now) (S.places self.now.supply.now) (S.shows self.now.supply.now) result }

@@ -5,6 +5,7 @@ ghost use Rattle.supplies.specs.Hiding.{unhidden};
 
 use plates::{Plate, Supply};
 
+// What hides plates, by the place and the plate.
 pub trait Hide {
     ghost hides: { Self → ℕ → Size → Bool };
 
