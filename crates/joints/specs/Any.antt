@@ -8,7 +8,7 @@ use Rattle.rules.specs.declared.terms.Card.{Card}
 use Rattle.rules.specs.declared.terms.Member.{Member}
 use Rattle.joints.specs.Grounds.{Drawing}
 use Rattle.joints.specs.Heels.{heel_draws, heel_asks}
-use Rattle.joints.specs.Joints.{sheet_drawing, sheet_standing, sheet_checks, sheet_verdict}
+use Rattle.joints.specs.Joints.{joint_drawing, joint_standing, joint_checks, joint_verdict}
 use Rattle.joints.specs.Splices.{splice_draws, splice_asks}
 use Rattle.joints.specs.Verdict.{Check}
 use Rattle.joints.specs.Web.{web_draws, web_asks}
@@ -31,13 +31,13 @@ any_asks (Heel s) ms cs p t = heel_asks s ms cs p t
 any_asks (Splice s) ms cs p t = splice_asks s ms cs p t
 
 abbrev pub any_drawing : AnyJoint → Drawing
-any_drawing j = sheet_drawing any_draws j
+any_drawing j = joint_drawing any_draws j
 
 abbrev pub any_standing : AnyJoint → Result (Unit {0}) Refusal
-any_standing j = sheet_standing any_draws j
+any_standing j = joint_standing any_draws j
 
 abbrev pub any_checks : AnyJoint → Size → Turning → List Check
-any_checks j = sheet_checks any_asks j
+any_checks j = joint_checks any_asks j
 
 abbrev pub any_verdict : AnyJoint → Size → Turning → Verdict
-any_verdict j = sheet_verdict any_draws any_asks j
+any_verdict j = joint_verdict any_draws any_asks j

@@ -9,7 +9,7 @@ use Rattle.rules.specs.declared.terms.Card.{Card}
 use Rattle.rules.specs.declared.terms.Member.{Member}
 use Rattle.joints.specs.Checks.{card_of, checks}
 use Rattle.joints.specs.Grounds.{within, truss_ranged, spanned, own, read_cards, Drawing}
-use Rattle.joints.specs.Joints.{sheet_drawing, sheet_standing, sheet_checks, sheet_verdict}
+use Rattle.joints.specs.Joints.{joint_drawing, joint_standing, joint_checks, joint_verdict}
 use Rattle.joints.specs.Verdict.{Check}
 use Rattle.joints.specs.declared.kinds.SheetJoint.{SheetJoint}
 use Rattle.joints.specs.declared.sheets.HeelSheet.{HeelSheet}
@@ -36,13 +36,13 @@ abbrev pub heel_asks : HeelSheet → List Member → List Card → Size → Turn
 heel_asks h ms cs p t = checks h.sheet.conditions (heel_factor h.rule h.rise h.run) (card_of (read_cards cs) p.family) p t
 
 abbrev pub heel_drawing : HeelJoint → Drawing
-heel_drawing j = sheet_drawing heel_draws j
+heel_drawing j = joint_drawing heel_draws j
 
 abbrev pub heel_standing : HeelJoint → Result (Unit {0}) Refusal
-heel_standing j = sheet_standing heel_draws j
+heel_standing j = joint_standing heel_draws j
 
 abbrev pub heel_checks : HeelJoint → Size → Turning → List Check
-heel_checks j = sheet_checks heel_asks j
+heel_checks j = joint_checks heel_asks j
 
 abbrev pub heel_verdict : HeelJoint → Size → Turning → Verdict
-heel_verdict j = sheet_verdict heel_draws heel_asks j
+heel_verdict j = joint_verdict heel_draws heel_asks j

@@ -12,7 +12,7 @@ use Rattle.clauses.specs.Clauses.{Laid, extends, section}
 use Rattle.clauses.specs.Splice.{holds_moment}
 use Rattle.rules.specs.declared.terms.Card.{Card}
 use Rattle.joints.specs.Grounds.{within, truss_ranged, paired, own, read_cards, Drawing}
-use Rattle.joints.specs.Joints.{sheet_drawing, sheet_standing, sheet_checks, sheet_verdict}
+use Rattle.joints.specs.Joints.{joint_drawing, joint_standing, joint_checks, joint_verdict}
 use Rattle.joints.specs.Verdict.{whole}
 use Rattle.joints.specs.declared.kinds.SheetJoint.{SheetJoint}
 use Rattle.joints.specs.declared.sheets.SpliceSheet.{SpliceSheet}
@@ -55,13 +55,13 @@ splice_asks j ms cs p t =
     checks j.sheet.conditions 100 c p t ++ splice_only j c p t (own j.sheet ms)
 
 abbrev pub splice_drawing : SpliceJoint → Drawing
-splice_drawing j = sheet_drawing splice_draws j
+splice_drawing j = joint_drawing splice_draws j
 
 abbrev pub splice_standing : SpliceJoint → Result (Unit {0}) Refusal
-splice_standing j = sheet_standing splice_draws j
+splice_standing j = joint_standing splice_draws j
 
 abbrev pub splice_checks : SpliceJoint → Size → Turning → List Check
-splice_checks j = sheet_checks splice_asks j
+splice_checks j = joint_checks splice_asks j
 
 abbrev pub splice_verdict : SpliceJoint → Size → Turning → Verdict
-splice_verdict j = sheet_verdict splice_draws splice_asks j
+splice_verdict j = joint_verdict splice_draws splice_asks j

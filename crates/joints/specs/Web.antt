@@ -8,7 +8,7 @@ use Rattle.rules.specs.declared.terms.Card.{Card}
 use Rattle.rules.specs.declared.terms.Member.{Member}
 use Rattle.joints.specs.Checks.{card_of, checks}
 use Rattle.joints.specs.Grounds.{truss_ranged, spanned, own, read_cards, Drawing}
-use Rattle.joints.specs.Joints.{sheet_drawing, sheet_standing, sheet_checks, sheet_verdict}
+use Rattle.joints.specs.Joints.{joint_drawing, joint_standing, joint_checks, joint_verdict}
 use Rattle.joints.specs.Verdict.{Check}
 use Rattle.joints.specs.declared.kinds.SheetJoint.{SheetJoint}
 use Rattle.joints.specs.declared.sheets.Sheet.{Sheet}
@@ -31,13 +31,13 @@ abbrev pub web_asks : Sheet → List Member → List Card → Size → Turning �
 web_asks s ms cs p t = checks s.conditions 100 (card_of (read_cards cs) p.family) p t
 
 abbrev pub web_drawing : WebJoint → Drawing
-web_drawing j = sheet_drawing web_draws j
+web_drawing j = joint_drawing web_draws j
 
 abbrev pub web_standing : WebJoint → Result (Unit {0}) Refusal
-web_standing j = sheet_standing web_draws j
+web_standing j = joint_standing web_draws j
 
 abbrev pub web_checks : WebJoint → Size → Turning → List Check
-web_checks j = sheet_checks web_asks j
+web_checks j = joint_checks web_asks j
 
 abbrev pub web_verdict : WebJoint → Size → Turning → Verdict
-web_verdict j = sheet_verdict web_draws web_asks j
+web_verdict j = joint_verdict web_draws web_asks j

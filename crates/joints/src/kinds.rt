@@ -5,7 +5,7 @@ ghost use Rattle.plates.specs.declared.turnings.Turning.{Turning};
 ghost use Rattle.rules.specs.declared.terms.Card.{Card};
 ghost use Rattle.rules.specs.declared.terms.Member.{Member};
 ghost use Rattle.joints.specs.Grounds.{Drawing, Stands, stands};
-ghost use Rattle.joints.specs.Joints.{sheet_drawing, sheet_standing, sheet_checks, sheet_verdict};
+ghost use Rattle.joints.specs.Joints.{joint_drawing, joint_standing, joint_checks, joint_verdict};
 ghost use Rattle.joints.specs.Verdict.{Check, Judges, first_missed};
 
 use plates::{Joint, Plate, Refusal, Turning, Verdict};
@@ -50,8 +50,8 @@ impl<'a, K: Kind> SheetJoint<'a, K> {
         ensures sheet { result.sheet ≡ sheet }
         ensures members { result.members.now ≡ members.now }
         ensures cards { result.cards.now ≡ cards.now }
-        ensures stands { Stands (sheet_drawing K.draws result) (sheet_standing K.draws result) }
-        ensures judges { (s : Size) (t : Turning) → Judges (sheet_checks K.asks result s t) (sheet_drawing K.draws result).members (sheet_verdict K.draws K.asks result s t) }
+        ensures stands { Stands (joint_drawing K.draws result) (joint_standing K.draws result) }
+        ensures judges { (s : Size) (t : Turning) → Judges (joint_checks K.asks result s t) (joint_drawing K.draws result).members (joint_verdict K.draws K.asks result s t) }
     {
         SheetJoint {
             sheet,
@@ -62,9 +62,9 @@ impl<'a, K: Kind> SheetJoint<'a, K> {
 }
 
 impl<K: Kind> Joint for SheetJoint<'_, K> {
-    ghost standing = { sheet_standing K.draws };
+    ghost standing = { joint_standing K.draws };
 
-    ghost verdict = { sheet_verdict K.draws K.asks };
+    ghost verdict = { joint_verdict K.draws K.asks };
 
     fn standing(&self) -> Result<(), Refusal> {
         self.sheet.standing_over(self.members, self.cards)
