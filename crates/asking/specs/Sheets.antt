@@ -2,8 +2,7 @@
 use Rattle.std.specs.Prelude.{◌≡◌, List, vec_items, Result}
 use Rattle.plates.specs.declared.refusals.Refusal.{Refusal}
 use Rattle.plates.specs.declared.verdicts.Verdict.{Verdict}
-use Rattle.joints.specs.Any.{any_standing, any_verdict}
-use Rattle.joints.specs.declared.any.AnyJoint.{AnyJoint}
+use Rattle.joints.specs.Any.{AnyJoint, any_standing, any_verdict}
 use Rattle.choice.specs.Choosing.{Chosen, Judged}
 use Rattle.choice.specs.declared.explaining.ExplainRow.{ExplainRow}
 use Rattle.blocks.specs.declared.sheets.Tried.{Tried}

@@ -1,4 +1,4 @@
-use Rattle.std.proofs.Common.{◌≡◌, ◌+◌, sym, ap, ◌∙◌, subst}
+use Rattle.std.proofs.Common.{◌+◌, sym, ap, ◌∙◌, subst}
 use Rattle.std.specs.Str.Iter.{lines_rest}
 use Rattle.texts.specs.Lines.{rest}
 use Rattle.jobs.specs.Texts.{Reading, Step, begun, step, state}
