@@ -149,8 +149,7 @@ impl fmt::Display for Values {
 impl fmt::Display for Counts<'_> {
     fn fmt<W: fmt::Write>(&self, f: &mut fmt::Formatter<W>) -> fmt::Result {
         f.write_str("stopped")?;
-        for clause in CLAUSES.iter() {
-            let clause = *clause;
+        for clause in CLAUSES {
             write!(f, " {} {}", clause.letter(), count(self.0, Some(clause)))?;
         }
         write!(f, " passed {}", count(self.0, None))

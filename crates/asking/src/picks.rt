@@ -23,16 +23,13 @@ pub fn pick<J: Joint, S: Supply>(joint: &J, supply: &S) -> Result<Picked, Refusa
 {
     let choice = choose(joint, supply)?;
     let (place, turning) = choice.candidate;
-    match supply.plate(place) {
-        Some(plate) => Ok(Picked {
-            place,
-            turning,
-            plate,
-            area: choice.area,
-            asked: choice.asked,
-        }),
-        None => unreachable(),
-    }
+    Ok(Picked {
+        place,
+        turning,
+        plate: supply.plate(place).unwrap(),
+        area: choice.area,
+        asked: choice.asked,
+    })
 }
 
 impl fmt::Display for Picked {

@@ -10,7 +10,7 @@ use journals::Verb;
 use plates::{Plate, Refusal, Supply};
 use plays::fates::{Fate, fate_of, slip_of};
 use plays::{Done, PressLine};
-use std::io;
+use std::{fmt, io};
 use yard::yards::BINS;
 use yard::{Answer, Bin, Call, OpenSlip, SlipNumbers, Yard};
 
@@ -83,11 +83,7 @@ fn write_drawn<P: Supply>(
     drawn: Result<SlipNumbers, Refusal>,
 ) -> io::Result<()> {
     match drawn {
-        Ok(numbers) => {
-            print!(rt; "slip {slip} joint {} ", numbers.joint)?;
-            write_pair(rt, pile, numbers)?;
-            println!(rt; "")
-        }
+        Ok(numbers) => println!(rt; "slip {slip} {}", Pair::of(pile, numbers)),
         Err(refusal) => println!(rt; "{}", refused(refusal)),
     }
 }
@@ -124,9 +120,10 @@ fn write_bin(rt: &HostRuntime, place: u32, plate: Option<Plate>, bin: Bin) -> io
     if on_hand == 0 && out == 0 {
         return Ok(());
     }
-    print!(rt; "place {place} ")?;
-    write_plate(rt, plate)?;
-    println!(rt; " on hand {on_hand} out {out}")
+    println!(rt;
+        "place {place} {} on hand {on_hand} out {out}",
+        Shown(plate)
+    )
 }
 
 pub(crate) fn write_presses<P: Supply>(
@@ -136,18 +133,14 @@ pub(crate) fn write_presses<P: Supply>(
 ) -> io::Result<()> {
     println!(rt; "press list")?;
     for pressing in list.iter() {
-        let numbers = pressing.numbers;
         let slip = pressing.slip.saturating_add(1);
-        print!(rt; "slip {slip} joint {} ", numbers.joint)?;
-        write_pair(rt, pile, numbers)?;
-        println!(rt;
-            " {}",
-            if pressing.pressed {
-                "pressed"
-            } else {
-                "tacked"
-            }
-        )?;
+        let pair = Pair::of(pile, pressing.numbers);
+        let how = if pressing.pressed {
+            "pressed"
+        } else {
+            "tacked"
+        };
+        println!(rt; "slip {slip} {pair} {how}")?;
     }
     Ok(())
 }
@@ -159,30 +152,52 @@ pub(crate) fn write_open<P: Supply>(
 ) -> io::Result<()> {
     println!(rt; "open slips")?;
     for slip in open.iter() {
-        let numbers = slip.numbers;
         let number = slip.hook.saturating_add(1);
-        print!(rt; "slip {number} joint {} ", numbers.joint)?;
-        write_pair(rt, pile, numbers)?;
-        println!(rt;
-            " {} stamp {}",
-            if slip.tacked { "tacked" } else { "drawn" },
-            numbers.stamp
-        )?;
+        let pair = Pair::of(pile, slip.numbers);
+        let how = if slip.tacked { "tacked" } else { "drawn" };
+        println!(rt; "slip {number} {pair} {how} stamp {}", slip.numbers.stamp)?;
     }
     Ok(())
 }
 
-// The pair of a slip: its place, its turning and its plate.
-fn write_pair<P: Supply>(rt: &HostRuntime, pile: &P, numbers: SlipNumbers) -> io::Result<()> {
-    let place = numbers.place;
-    print!(rt; "place {place} {} ", numbers.turning)?;
-    write_plate(rt, pile.plate(place))
+// The pair of a slip, and the plate that the pile shows at its place.
+#[derive(Clone, Copy)]
+struct Pair {
+    numbers: SlipNumbers,
+    plate: Shown,
 }
 
-fn write_plate(rt: &HostRuntime, plate: Option<Plate>) -> io::Result<()> {
-    match plate {
-        Some(plate) => print!(rt; "{plate}"),
-        None => print!(rt; "no plate"),
+// A plate, where there is one.
+#[derive(Clone, Copy)]
+struct Shown(Option<Plate>);
+
+impl Pair {
+    fn of<P: Supply>(pile: &P, numbers: SlipNumbers) -> Pair {
+        Pair {
+            numbers,
+            plate: Shown(pile.plate(numbers.place)),
+        }
+    }
+}
+
+impl fmt::Display for Pair {
+    fn fmt<W: fmt::Write>(&self, f: &mut fmt::Formatter<W>) -> fmt::Result {
+        let SlipNumbers {
+            joint,
+            place,
+            turning,
+            ..
+        } = self.numbers;
+        write!(f, "joint {joint} place {place} {turning} {}", self.plate)
+    }
+}
+
+impl fmt::Display for Shown {
+    fn fmt<W: fmt::Write>(&self, f: &mut fmt::Formatter<W>) -> fmt::Result {
+        match self.0 {
+            Some(plate) => write!(f, "{plate}"),
+            None => f.write_str("no plate"),
+        }
     }
 }
 

@@ -171,36 +171,24 @@ impl Reader {
         let opened = self.opened;
         match self.block {
             Open::Nothing => {}
-            Open::Card(draft) => self
-                .job
-                .cards
-                .push(whole(draft, Block::Card.word(), opened)?)?,
-            Open::Member(draft) => self
-                .job
-                .members
-                .push(whole(draft, Block::Member.word(), opened)?)?,
+            Open::Card(draft) => self.job.cards.push(whole(draft, Block::Card, opened)?)?,
+            Open::Member(draft) => self.job.members.push(whole(draft, Block::Member, opened)?)?,
             Open::Web(draft) => {
-                let sheet = AnySheet::Web(whole(draft, Block::Web.word(), opened)?);
+                let sheet = AnySheet::Web(whole(draft, Block::Web, opened)?);
                 self.enter(Block::Web, sheet, draft.tried)?
             }
             Open::Heel(draft) => {
-                let sheet = AnySheet::Heel(whole(draft, Block::Heel.word(), opened)?);
+                let sheet = AnySheet::Heel(whole(draft, Block::Heel, opened)?);
                 self.enter(Block::Heel, sheet, draft.sheet.tried)?
             }
             Open::Splice(draft) => {
-                let sheet = AnySheet::Splice(whole(draft, Block::Splice.word(), opened)?);
+                let sheet = AnySheet::Splice(whole(draft, Block::Splice, opened)?);
                 self.enter(Block::Splice, sheet, draft.sheet.tried)?
             }
             Open::List => {}
-            Open::Coil(draft) => self.job.coil = Some(whole(draft, Block::Coil.word(), opened)?),
-            Open::Press(draft) => self
-                .job
-                .layers
-                .push(whole(draft, Block::Press.word(), opened)?)?,
-            Open::Strike(draft) => self
-                .job
-                .layers
-                .push(whole(draft, Block::Strike.word(), opened)?)?,
+            Open::Coil(draft) => self.job.coil = Some(whole(draft, Block::Coil, opened)?),
+            Open::Press(draft) => self.job.layers.push(whole(draft, Block::Press, opened)?)?,
+            Open::Strike(draft) => self.job.layers.push(whole(draft, Block::Strike, opened)?)?,
         }
         self.block = Open::Nothing;
         Ok(())

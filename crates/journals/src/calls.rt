@@ -7,7 +7,7 @@ ghost use Rattle.journals.specs.Says.{Says, numbers_of, verb_of};
 
 use super::ordinals::Ordinal;
 use super::verbs::Verb;
-use texts::{Fault, Line, Value};
+use texts::{Fault, Line};
 use yard::Call;
 
 // The call that a line says: none where the line is blank.
@@ -17,9 +17,7 @@ pub fn call_of(line: &mut Line) -> Result<Option<Call>, Fault>
     let Some(word) = line.word() else {
         return Ok(None);
     };
-    let Some(verb) = Verb::read(word) else {
-        return Err(line.wrong(word, Verb::expected()));
-    };
+    let verb: Verb = line.meant(word)?;
     let call = numbered(verb, line)?;
     line.end()?;
     Ok(Some(call))

@@ -3,11 +3,8 @@ ghost use Rattle.std.specs.Prelude.{◌≡◌};
 ghost use Rattle.piles.specs.Coils.{coil_key_word, coil_has, CoilKept, CoilTakes, coil_of, coil_widths};
 ghost use Rattle.texts.specs.Words.{Named};
 
-use supplies::{CoilCutter, Few};
+use supplies::{CoilCutter, Few, MAX_WIDTHS};
 use texts::{Draft, Expected, Fault, Line, Value, Word};
-
-// A cutter takes so many widths.
-pub const MAX_WIDTHS: usize = 8;
 
 #[derive(Clone, Copy)]
 pub enum CoilKey {

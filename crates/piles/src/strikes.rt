@@ -3,7 +3,7 @@ ghost use Rattle.std.specs.Prelude.{◌≡◌};
 ghost use Rattle.piles.specs.Strikes.{strike_key_word, strike_has, StrikeKept, StrikeTakes, strike_of};
 ghost use Rattle.texts.specs.Words.{Named};
 
-use supplies::{Few, Layer};
+use supplies::{Few, Layer, MAX_STRUCK};
 use texts::{Draft, Expected, Fault, Line, Value, Word};
 
 #[derive(Clone, Copy)]
@@ -14,7 +14,7 @@ pub enum StrikeKey {
 // What the lines of the block have said so far.
 #[derive(Clone, Copy, Default)]
 pub struct StrikeDraft {
-    pub places: Option<Few<32>>,
+    pub places: Option<Few<MAX_STRUCK>>,
 }
 
 impl Value for StrikeKey {

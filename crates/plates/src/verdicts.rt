@@ -82,13 +82,7 @@ impl Verdict {
     pub fn passes(self) -> bool
         ensures { result ≡ passes self }
     {
-        match self {
-            Verdict::Passes => true,
-            Verdict::Misses {
-                clause: _,
-                member: _,
-            } => false,
-        }
+        matches!(self, Verdict::Passes)
     }
 
     // The member that the verdict names: 0 for 'passes'.
@@ -97,7 +91,7 @@ impl Verdict {
     {
         match self {
             Verdict::Passes => 0,
-            Verdict::Misses { clause: _, member } => member,
+            Verdict::Misses { member, .. } => member,
         }
     }
 }

@@ -7,7 +7,7 @@ ghost use Rattle.supplies.specs.Coils.{coil_length, coil_places, coil_shows, Coi
 use plates::{Plate, Supply};
 
 // Widths beyond these are not read.
-const MAX_WIDTHS: usize = 8;
+pub const MAX_WIDTHS: usize = 8;
 
 // Steps beyond these are not cut.
 const MAX_STEPS: u32 = 64;

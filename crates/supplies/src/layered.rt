@@ -5,14 +5,14 @@ ghost use Rattle.supplies.specs.Layers.{hidden, hides, LayerLaws};
 use super::covered::{Covered, Hide};
 use super::few::Few;
 use super::limit::Press;
-use super::strike::Strikes;
+use super::strike::{MAX_STRUCK, Strikes};
 use plates::Plate;
 
 // A press limit, or a strike list.
 #[derive(Clone, Copy)]
 pub enum Layer {
     Press { width: u32, length: u32 },
-    Strike(Few<32>),
+    Strike(Few<MAX_STRUCK>),
 }
 
 // The layers over a supply, of which the first lies lowest.

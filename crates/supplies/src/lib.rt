@@ -9,13 +9,13 @@ pub mod limit;
 pub mod list;
 pub mod strike;
 
-pub use coil::CoilCutter;
+pub use coil::{CoilCutter, MAX_WIDTHS};
 pub use covered::{Covered, Hide};
 pub use few::Few;
 pub use layered::{Layer, Layered};
 pub use limit::PressLimit;
 pub use list::{MakersList, Row};
-pub use strike::StrikeList;
+pub use strike::{MAX_STRUCK, StrikeList};
 
 #[cfg(test)]
 mod tests;

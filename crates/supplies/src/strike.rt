@@ -6,7 +6,7 @@ use super::covered::{Covered, Hide};
 use plates::Plate;
 
 // The places struck beyond these are not read.
-const MAX_STRUCK: usize = 32;
+pub const MAX_STRUCK: usize = 32;
 
 #[derive(Clone, Copy)]
 pub struct Strikes<'a>(pub(crate) &'a [u32]);

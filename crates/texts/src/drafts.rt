@@ -5,7 +5,7 @@ ghost use Rattle.texts.specs.Lines.{rest};
 
 use super::faults::{Expected, Fault, Found, Mismatch};
 use super::line::Line;
-use super::values::{Value, Word};
+use super::values::Word;
 
 // What the lines of a block have said so far, by key: `has` says which keys have come, `kept` that every
 // key but one is as it was, `takes` that the value of a key is what the next words of its line say, and
@@ -39,7 +39,7 @@ pub trait Draft: Copy + Default {
 pub fn with_line<D: Draft>(draft: D, word: &str, line: &mut Line) -> Result<D, Fault>
     ensures { IfOk result (λ d. (k : D.Key) × D.Key.Value.reads word.now (Some k) × (D.has k draft ≡ false) × (D.has k d ≡ true) × D.kept k draft d × D.takes k (rest line.old) d (rest line.new)) }
 {
-    let key = D::Key::read(word).ok_or_else(|| line.wrong(word, D::Key::expected()))?;
+    let key: D::Key = line.meant(word)?;
     if draft.has(key) {
         return Err(line.wrong(word, Expected::Once(key.word())));
     }
@@ -49,13 +49,13 @@ pub fn with_line<D: Draft>(draft: D, word: &str, line: &mut Line) -> Result<D, F
 }
 
 // What a draft gives as a whole. A key that it lacks is a fault of the line that opened its block.
-pub fn whole<D: Draft>(draft: D, block: &'static str, opened: usize) -> Result<D::Whole, Fault>
+pub fn whole<D: Draft, B: Word>(draft: D, block: B, opened: usize) -> Result<D::Whole, Fault>
     ensures { MatchResult result (λ x. D.whole draft ≡ Ok x) (λ f. at_line f ≡ opened) }
 {
     draft.finish().map_err(|key| Fault::Format {
         line: opened,
         mismatch: Mismatch {
-            found: Found::Keyword(block),
+            found: Found::Keyword(block.word()),
             expected: Expected::Lacking(key.word()),
         },
     })

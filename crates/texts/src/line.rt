@@ -72,14 +72,14 @@ impl<'a> Line<'a> {
         ensures number { self.new.number ≡ self.old.number }
         ensures value { MatchResult result (λ v. Taken T.Value.reads (rest self.old) v (rest self.new)) (λ f. At self.old.number f) }
     {
-        match self.word() {
-            Some(word) => self.meant(word),
-            None => Err(self.fault(Found::EndOfLine, T::expected())),
-        }
+        let word = self
+            .word()
+            .ok_or_else(|| self.fault(Found::EndOfLine, T::expected()))?;
+        self.meant(word)
     }
 
     // The value of a word of this line.
-    fn meant<T: Value>(&self, word: &str) -> Result<T, Fault>
+    pub fn meant<T: Value>(&self, word: &str) -> Result<T, Fault>
         ensures { MatchResult result (λ v. T.Value.reads word.now (Some v)) (λ f. At self.now.number f) }
     {
         T::read(word).ok_or_else(|| self.wrong(word, T::expected()))
