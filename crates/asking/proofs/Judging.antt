@@ -1,8 +1,8 @@
 -- The sheets of a job, one by one.
 use Rattle.std.proofs.Common.{◌≡◌, ℕ, ◌+◌, ◌<◌, ◌≤◌, List, [], ◌∷◌, ◌++◌, length, get_or, take, None, sym, ap, ◌∙◌, subst}
 use Rattle.std.proofs.lemmas.List.{take_more, take_all}
-use Rattle.std.specs.List.{ContainsAt as Has}
-use Rattle.std.proofs.ByRecursion.{has_get_or}
+use Rattle.std.proofs.lemmas.List.Elements.{Contains-get_or}
+use Rattle.std.specs.List.{Contains}
 use Rattle.jobs.specs.declared.reader.Entry.{Entry}
 use Rattle.texts.specs.Faults.{at_line}
 use Rattle.texts.specs.declared.faults.Fault.{Fault}
@@ -32,5 +32,5 @@ module _ {R : Type 0} (P : Entry → R → Type 0) where
 
 -- the fault of a sheet at i that names no plate
 pub untried_at : (sheets items : List Entry) (i : ℕ) (e : Entry) (f : Fault) → items ≡ sheets → i < length items → e ≡ get_or items i e → e.tried ≡ None → at_line f ≡ e.line → Untried sheets f
-untried_at sheets items i e (Format line m) same h is none at = (e, subst (λ es. Has es e) same (subst (Has items) (sym is) (has_get_or items i e h)), none, at)
+untried_at sheets items i e (Format line m) same h is none at = (e, subst (λ es. Contains es e) same (subst (Contains items) (sym is) (Contains-get_or items i e h)), none, at)
 untried_at sheets items i e Memory same h is none at = tt

@@ -1,6 +1,6 @@
 -- The verdicts that the sheets of a job ask for, in their order.
 use Rattle.std.specs.Prelude.{◌≡◌, List, Some, None, Result}
-use Rattle.std.specs.List.{ContainsAt as Has}
+use Rattle.std.specs.List.{Contains}
 use Rattle.plates.specs.declared.refusals.Refusal.{Refusal}
 use Rattle.plates.specs.declared.verdicts.Verdict.{Verdict}
 use Rattle.texts.specs.declared.faults.Fault.{Fault}
@@ -21,5 +21,5 @@ AllJudged job = Each (Asked job)
 
 -- the fault is at a sheet that names no plate, or memory is short
 abbrev pub Untried : List Entry → Fault → Type 0
-Untried es (Format line m) = (e : Entry) × Has es e × (e.tried ≡ None) × (line ≡ e.line)
+Untried es (Format line m) = (e : Entry) × Contains es e × (e.tried ≡ None) × (line ≡ e.line)
 Untried es Memory = Unit {0}

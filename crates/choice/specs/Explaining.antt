@@ -1,7 +1,7 @@
 -- The rows that explain a choice, for any joint (its standing and its verdict) and any
 -- supply (its place count and what it shows at each place).
 use Rattle.std.specs.Prelude.{◌≡◌, ℕ, zero, suc, ◌+◌, ◌*◌, ◌<◌, ◌≤◌, cond, ◌⊎◌, List, [], ◌∷◌, ◌++◌, length, is_some, Some, None, Ok, Err, Option, Result, ◌≢◌}
-use Rattle.std.specs.List.{ContainsAt as Has, AllByRecursion}
+use Rattle.std.specs.List.{AllByRecursion, Contains}
 use Rattle.plates.specs.Size.{Size}
 use Rattle.plates.specs.Refusals.{refusal_number}
 use Rattle.plates.specs.declared.refusals.Refusal.{Refusal}
@@ -61,7 +61,7 @@ InOrder (x ∷ xs) = AllByRecursion (Before x) xs × InOrder xs
 -- a choice agrees with the rows: its candidate's row is there and passes; where nothing fits,
 -- no row passes
 abbrev pub Agrees : List ExplainRow → Result Choice Refusal → Type 0
-Agrees rows (Ok c) = Has rows (record { place = c.candidate.0; turning = c.candidate.1; verdict = Passes })
+Agrees rows (Ok c) = Contains rows (record { place = c.candidate.0; turning = c.candidate.1; verdict = Passes })
 Agrees rows (Err e) = AllByRecursion (λ x. x.verdict ≢ Passes) rows
 
 -- the rows give a full account of what is shown: each tells the verdict; each plate shown has
@@ -69,7 +69,7 @@ Agrees rows (Err e) = AllByRecursion (λ x. x.verdict ≢ Passes) rows
 -- whatever choose may answer
 pub record Account (verdict : Size → Turning → Verdict) (places : ℕ) (shows : ℕ → Option Size) (rows : List ExplainRow) : Type 0 where
   pub tells : AllByRecursion (Tells verdict shows) rows
-  pub whole : (k : ℕ) (s : Size) (t : Turning) → shows k ≡ Some s → Has rows (row_of verdict k s t)
+  pub whole : (k : ℕ) (s : Size) (t : Turning) → shows k ≡ Some s → Contains rows (row_of verdict k s t)
   pub ordered : InOrder rows
   pub twice : length rows ≡ 2 * shown places shows
   pub agrees : (r : Result Choice Refusal) → Answered verdict places shows r → Agrees rows r

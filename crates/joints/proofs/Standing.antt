@@ -5,7 +5,7 @@ use Rattle.rules.specs.declared.terms.Member.{Member}
 use Rattle.joints.specs.Grounds.{MembersRanged, CardsRanged, member_ranged, card_ranged, drawn, unless_at, numbers_stand, Drawing, stands, Stands}
 use Rattle.plates.specs.declared.refusals.Refusal.TheVariants.{SheetNumber, MemberSpan, MemberNumber, CardNumber, EmptyField}
 use Rattle.std.specs.List.{All}
-use Rattle.std.proofs.ByRecursion.{All-get_or}
+use Rattle.std.proofs.lemmas.List.Elements.{All-from_recursion}
 use Rattle.rules.specs.Ranges.{CardWithin, MemberWithin}
 use Rattle.joints.proofs.Scanning.{Means, means}
 use Rattle.joints.proofs.Within.{member_within, card_within}
@@ -37,7 +37,7 @@ module _ (first : ℕ) (ms : List Member) (cs : List Card) (e : numbers_stand fi
       (h.2, h.3)
 
   pub members_within : All MemberWithin ms
-  members_within = λ k d h. member_within _ (All-get_or (λ m. member_ranged m ≡ true) ms k d h ruled.0)
+  members_within = λ k d h. member_within _ (All-from_recursion (λ m. member_ranged m ≡ true) ms ruled.0 k d h)
 
   pub cards_within : All CardWithin cs
-  cards_within = λ k d h. card_within _ (All-get_or (λ c. card_ranged c ≡ true) cs k d h ruled.1)
+  cards_within = λ k d h. card_within _ (All-from_recursion (λ c. card_ranged c ≡ true) cs ruled.1 k d h)
