@@ -1,5 +1,4 @@
 pub mod Accounts
-pub mod Each
 pub mod Picks
 pub mod Piles
 pub mod Sheets

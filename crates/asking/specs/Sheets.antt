@@ -9,7 +9,7 @@ use Rattle.blocks.specs.declared.sheets.Tried.{Tried}
 use Rattle.jobs.specs.declared.reader.Entry.{Entry}
 use Rattle.jobs.specs.declared.reader.Job.{Job}
 use Rattle.asking.specs.Accounts.{AllRows, NoRows}
-use Rattle.asking.specs.Each.{Each}
+use Rattle.std.specs.List.{AllZip}
 use Rattle.asking.specs.Picks.{as_choice, Shown}
 use Rattle.asking.specs.Piles.{pile_places, pile_shows}
 use Rattle.asking.specs.declared.accounts.NoAccount.{NoAccount}
@@ -23,7 +23,7 @@ pub record Drawn (job : Job) (e : Entry) (j : AnyJoint) : Type 0 where
 
 -- the joints of all sheets
 abbrev pub AllDrawn : Job → List AnyJoint → Type 0
-AllDrawn job js = Each (Drawn job) (vec_items job.sheets) js
+AllDrawn job js = AllZip (Drawn job) (vec_items job.sheets) js
 
 -- r is the engine's choice for the joint of the sheet, over the job's pile
 abbrev pub Picks : Job → Entry → Result Picked Refusal → Type 0
