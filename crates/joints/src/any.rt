@@ -2,9 +2,8 @@
 ghost use Rattle.joints.specs.Any.{any_draws, any_asks};
 
 use super::kinds::{Kind, SheetJoint};
-use super::sheets::{HeelSheet, Sheet, SpliceSheet};
+use super::sheets::{HeelSheet, Lists, Sheet, SpliceSheet};
 use plates::{Plate, Refusal, Turning, Verdict};
-use rules::{Card, Member};
 
 #[derive(Clone, Copy)]
 pub enum AnySheet {
@@ -21,25 +20,19 @@ impl Kind for AnySheet {
 
     ghost asks = { any_asks };
 
-    fn standing_over(&self, members: &[Member], cards: &[Card]) -> Result<(), Refusal> {
+    fn standing_over(&self, lists: &Lists) -> Result<(), Refusal> {
         match self {
-            AnySheet::Web(s) => s.standing_over(members, cards),
-            AnySheet::Heel(s) => s.standing_over(members, cards),
-            AnySheet::Splice(s) => s.standing_over(members, cards),
+            AnySheet::Web(s) => s.standing_over(lists),
+            AnySheet::Heel(s) => s.standing_over(lists),
+            AnySheet::Splice(s) => s.standing_over(lists),
         }
     }
 
-    fn verdict_over(
-        &self,
-        members: &[Member],
-        cards: &[Card],
-        plate: Plate,
-        turning: Turning,
-    ) -> Verdict {
+    fn verdict_over(&self, lists: &Lists, plate: Plate, turning: Turning) -> Verdict {
         match self {
-            AnySheet::Web(s) => s.verdict_over(members, cards, plate, turning),
-            AnySheet::Heel(s) => s.verdict_over(members, cards, plate, turning),
-            AnySheet::Splice(s) => s.verdict_over(members, cards, plate, turning),
+            AnySheet::Web(s) => s.verdict_over(lists, plate, turning),
+            AnySheet::Heel(s) => s.verdict_over(lists, plate, turning),
+            AnySheet::Splice(s) => s.verdict_over(lists, plate, turning),
         }
     }
 }

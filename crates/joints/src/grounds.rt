@@ -2,7 +2,7 @@
 ghost use Rattle.std.specs.Prelude.{◌≡◌, ◌+◌, ◌≤◌, true, length, if◌then◌else◌, Ok, Err};
 ghost use Rattle.joints.specs.Grounds.{within, truss_ranged, listed, spanned, paired, own, loads_ranged, angles_ranged, depth_listed, span_ranged, member_ranged, lateral_ranged, shear_ranged, card_ranged, read_cards, drawn, numbers_stand, stands};
 
-use super::sheets::Sheet;
+use super::sheets::{Lists, Sheet};
 use plates::Refusal;
 use rules::{Card, Lateral, Member, Span};
 
@@ -164,16 +164,16 @@ fn drawn(m: &Member) -> bool
 
 // Grounds 3 and 4, in their order: the numbers of each member and of each card, and the field of
 // each member.
-fn numbers_stand(sheet: &Sheet, members: &[Member], cards: &[Card]) -> Result<(), Refusal>
-    requires { sheet.now.first + sheet.now.count ≤ length members.now }
-    ensures { result ≡ numbers_stand sheet.now.first (own sheet.now members.now) (read_cards cards.now) }
+fn numbers_stand(sheet: &Sheet, lists: &Lists) -> Result<(), Refusal>
+    requires { sheet.now.first + sheet.now.count ≤ length lists.now.members.now }
+    ensures { result ≡ numbers_stand sheet.now.first (own sheet.now lists.now.members.now) (read_cards lists.now.cards.now) }
 {
     let first = sheet.first;
-    let own = own(sheet, members);
+    let own = own(sheet, lists.members);
     if let Some(i) = own.iter().position(|m| !member_ranged(m)) {
         return Err(Refusal::MemberNumber { index: first + i });
     }
-    if let Some(index) = read_cards(cards).iter().position(|c| !card_ranged(c)) {
+    if let Some(index) = read_cards(lists.cards).iter().position(|c| !card_ranged(c)) {
         return Err(Refusal::CardNumber { index });
     }
     if let Some(i) = own.iter().position(|m| !drawn(m)) {
@@ -183,17 +183,11 @@ fn numbers_stand(sheet: &Sheet, members: &[Member], cards: &[Card]) -> Result<()
 }
 
 // The grounds in their order: `right` tells of the sheet's own numbers, `spans` of its members.
-pub fn grounds(
-    right: bool,
-    spans: bool,
-    sheet: &Sheet,
-    members: &[Member],
-    cards: &[Card],
-) -> Result<(), Refusal>
-    requires { spans ≡ true → sheet.now.first + sheet.now.count ≤ length members.now }
-    ensures { result ≡ stands (record { numbers = right; span = spans; first = sheet.now.first; members = own sheet.now members.now; cards = read_cards cards.now }) }
+pub fn grounds(right: bool, spans: bool, sheet: &Sheet, lists: &Lists) -> Result<(), Refusal>
+    requires { spans ≡ true → sheet.now.first + sheet.now.count ≤ length lists.now.members.now }
+    ensures { result ≡ stands (record { numbers = right; span = spans; first = sheet.now.first; members = own sheet.now lists.now.members.now; cards = read_cards lists.now.cards.now }) }
 {
     ground(right, Refusal::SheetNumber)?;
     ground(spans, Refusal::MemberSpan)?;
-    numbers_stand(sheet, members, cards)
+    numbers_stand(sheet, lists)
 }

@@ -4,10 +4,10 @@ ghost use Rattle.joints.specs.Heels.{heel_ranged, heel_draws, heel_asks};
 
 use super::grounds::{grounds, spanned, truss_ranged};
 use super::kinds::{Kind, SheetJoint};
-use super::sheets::HeelSheet;
+use super::sheets::{HeelSheet, Lists};
 use super::trying::Lawful;
 use plates::{Plate, Refusal, Turning, Verdict};
-use rules::{Card, Member, heel_factor};
+use rules::heel_factor;
 
 const MAX_SLOPE: u32 = 10_000;
 
@@ -27,21 +27,15 @@ impl Kind for HeelSheet {
 
     ghost asks = { heel_asks };
 
-    fn standing_over(&self, members: &[Member], cards: &[Card]) -> Result<(), Refusal> {
+    fn standing_over(&self, lists: &Lists) -> Result<(), Refusal> {
         let sheet = &self.sheet;
         let right = heel_ranged(self);
-        grounds(right, spanned(sheet, members.len()), sheet, members, cards)
+        grounds(right, spanned(sheet, lists.members.len()), sheet, lists)
     }
 
-    fn verdict_over(
-        &self,
-        members: &[Member],
-        cards: &[Card],
-        plate: Plate,
-        turning: Turning,
-    ) -> Verdict {
+    fn verdict_over(&self, lists: &Lists, plate: Plate, turning: Turning) -> Verdict {
         let factor = heel_factor(self.rule, self.rise, self.run);
-        let lawful = Lawful::new(&self.sheet, members, cards);
+        let lawful = Lawful::new(&self.sheet, lists);
         lawful.tried(&self.sheet.conditions, factor, plate, turning)
     }
 }

@@ -8,6 +8,7 @@ ghost use Rattle.joints.specs.Grounds.{Drawing, Stands, stands};
 ghost use Rattle.joints.specs.Joints.{joint_drawing, joint_standing, joint_checks, joint_verdict};
 ghost use Rattle.joints.specs.Verdict.{Check, Judges, first_missed};
 
+use super::sheets::Lists;
 use plates::{Joint, Plate, Refusal, Turning, Verdict};
 use rules::{Card, Member};
 
@@ -18,19 +19,13 @@ pub trait Kind {
     ghost asks: { Self → List Member → List Card → Size → Turning → List Check };
 
     // The grounds in their order.
-    fn standing_over(&self, members: &[Member], cards: &[Card]) -> Result<(), Refusal>
-        ensures { result ≡ stands (draws self.now members.now cards.now) };
+    fn standing_over(&self, lists: &Lists) -> Result<(), Refusal>
+        ensures { result ≡ stands (draws self.now lists.now.members.now lists.now.cards.now) };
 
     // The clauses in their order.
-    fn verdict_over(
-        &self,
-        members: &[Member],
-        cards: &[Card],
-        plate: Plate,
-        turning: Turning,
-    ) -> Verdict
-        requires { stands (draws self.now members.now cards.now) ≡ Ok tt }
-        ensures { result ≡ first_missed (asks self.now members.now cards.now (size plate) turning) (draws self.now members.now cards.now).members };
+    fn verdict_over(&self, lists: &Lists, plate: Plate, turning: Turning) -> Verdict
+        requires { stands (draws self.now lists.now.members.now lists.now.cards.now) ≡ Ok tt }
+        ensures { result ≡ first_missed (asks self.now lists.now.members.now lists.now.cards.now (size plate) turning) (draws self.now lists.now.members.now lists.now.cards.now).members };
 }
 
 // A joint over the caller's members and cards; family k is card k, counted from 0.
@@ -61,17 +56,28 @@ impl<'a, K: Kind> SheetJoint<'a, K> {
     }
 }
 
+impl<'a, K> SheetJoint<'a, K> {
+    fn lists(&self) -> Lists<'a>
+        ensures members { result.members.now ≡ self.now.members.now }
+        ensures cards { result.cards.now ≡ self.now.cards.now }
+    {
+        Lists {
+            members: self.members,
+            cards: self.cards,
+        }
+    }
+}
+
 impl<K: Kind> Joint for SheetJoint<'_, K> {
     ghost standing = { joint_standing K.draws };
 
     ghost verdict = { joint_verdict K.draws K.asks };
 
     fn standing(&self) -> Result<(), Refusal> {
-        self.sheet.standing_over(self.members, self.cards)
+        self.sheet.standing_over(&self.lists())
     }
 
     fn verdict(&self, plate: Plate, turning: Turning) -> Verdict {
-        self.sheet
-            .verdict_over(self.members, self.cards, plate, turning)
+        self.sheet.verdict_over(&self.lists(), plate, turning)
     }
 }

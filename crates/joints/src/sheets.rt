@@ -1,5 +1,5 @@
-// The sheets.
-use rules::{Conditions, FactorRule};
+// The sheets, and the lists that they are drawn over.
+use rules::{Card, Conditions, FactorRule, Member};
 
 // What a sheet of any kind says: its members are `count` of the caller's list from `first` on.
 #[derive(Clone, Copy)]
@@ -24,4 +24,11 @@ pub struct SpliceSheet {
     pub sheet: Sheet,
     pub moment: u32,
     pub wood: u32,
+}
+
+// The caller's members and cards.
+#[derive(Clone, Copy)]
+pub struct Lists<'a> {
+    pub members: &'a [Member],
+    pub cards: &'a [Card],
 }

@@ -7,11 +7,10 @@ ghost use Rattle.joints.specs.Verdict.{first_missed};
 
 use super::grounds::{grounds, paired, truss_ranged};
 use super::kinds::{Kind, SheetJoint};
-use super::sheets::SpliceSheet;
+use super::sheets::{Lists, SpliceSheet};
 use super::trying::{Lawful, OFF_HEEL, missed};
 use clauses::{Trial, extends, holds_moment, section};
 use plates::{Clause, Plate, Refusal, Turning, Verdict};
-use rules::{Card, Member};
 
 const MAX_MOMENT: u32 = 20_000_000;
 
@@ -51,23 +50,17 @@ impl Kind for SpliceSheet {
 
     ghost asks = { splice_asks };
 
-    fn standing_over(&self, members: &[Member], cards: &[Card]) -> Result<(), Refusal> {
+    fn standing_over(&self, lists: &Lists) -> Result<(), Refusal> {
         let sheet = &self.sheet;
         let right = splice_ranged(self);
-        grounds(right, paired(sheet, members.len()), sheet, members, cards)
+        grounds(right, paired(sheet, lists.members.len()), sheet, lists)
     }
 
     // A to I, then J and K.
     #[tactic(auto, using(crate::proofs::Verdicts::missed_before, crate::proofs::Verdicts::passed_before))]
-    fn verdict_over(
-        &self,
-        members: &[Member],
-        cards: &[Card],
-        plate: Plate,
-        turning: Turning,
-    ) -> Verdict {
+    fn verdict_over(&self, lists: &Lists, plate: Plate, turning: Turning) -> Verdict {
         let conditions = self.sheet.conditions;
-        let lawful = Lawful::new(&self.sheet, members, cards);
+        let lawful = Lawful::new(&self.sheet, lists);
         let verdict = lawful.tried(&conditions, OFF_HEEL, plate, turning);
         if !verdict.passes() {
             return verdict;

@@ -13,7 +13,7 @@ ghost use Rattle.joints.specs.Verdict.{first_missed};
 ghost use Rattle.joints.specs.Checks.{card_of, member_clauses, each_of, checks};
 
 use super::grounds::{own, read_cards};
-use super::sheets::Sheet;
+use super::sheets::{Lists, Sheet};
 use clauses::{Trial, allowed, meets, short_teeth};
 use plates::{Clause, Plate, Turning, Verdict};
 use rules::{Card, Conditions, Member};
@@ -53,16 +53,16 @@ pub struct Lawful<'a> {
 }
 
 impl<'a> Lawful<'a> {
-    pub fn new(sheet: &Sheet, members: &'a [Member], cards: &'a [Card]) -> Self
+    pub fn new(sheet: &Sheet, lists: &Lists<'a>) -> Self
         requires few { sheet.now.count ≤ 6 }
-        requires listed { sheet.now.first + sheet.now.count ≤ length members.now }
-        requires stand { numbers_stand sheet.now.first (own sheet.now members.now) (read_cards cards.now) ≡ Ok tt }
-        ensures own { result.own.now ≡ own sheet.now members.now }
-        ensures cards { result.cards.now ≡ read_cards cards.now }
+        requires listed { sheet.now.first + sheet.now.count ≤ length lists.now.members.now }
+        requires stand { numbers_stand sheet.now.first (own sheet.now lists.now.members.now) (read_cards lists.now.cards.now) ≡ Ok tt }
+        ensures own { result.own.now ≡ own sheet.now lists.now.members.now }
+        ensures cards { result.cards.now ≡ read_cards lists.now.cards.now }
     {
         Lawful {
-            own: own(sheet, members),
-            cards: read_cards(cards),
+            own: own(sheet, lists.members),
+            cards: read_cards(lists.cards),
         }
     }
 

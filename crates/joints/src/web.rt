@@ -3,10 +3,9 @@ ghost use Rattle.joints.specs.Web.{web_draws, web_asks};
 
 use super::grounds::{grounds, spanned, truss_ranged};
 use super::kinds::{Kind, SheetJoint};
-use super::sheets::Sheet;
+use super::sheets::{Lists, Sheet};
 use super::trying::{Lawful, OFF_HEEL};
 use plates::{Plate, Refusal, Turning, Verdict};
-use rules::{Card, Member};
 
 pub type WebJoint<'a> = SheetJoint<'a, Sheet>;
 
@@ -15,18 +14,12 @@ impl Kind for Sheet {
 
     ghost asks = { web_asks };
 
-    fn standing_over(&self, members: &[Member], cards: &[Card]) -> Result<(), Refusal> {
+    fn standing_over(&self, lists: &Lists) -> Result<(), Refusal> {
         let right = truss_ranged(self);
-        grounds(right, spanned(self, members.len()), self, members, cards)
+        grounds(right, spanned(self, lists.members.len()), self, lists)
     }
 
-    fn verdict_over(
-        &self,
-        members: &[Member],
-        cards: &[Card],
-        plate: Plate,
-        turning: Turning,
-    ) -> Verdict {
-        Lawful::new(self, members, cards).tried(&self.conditions, OFF_HEEL, plate, turning)
+    fn verdict_over(&self, lists: &Lists, plate: Plate, turning: Turning) -> Verdict {
+        Lawful::new(self, lists).tried(&self.conditions, OFF_HEEL, plate, turning)
     }
 }
