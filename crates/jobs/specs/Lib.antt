@@ -1,3 +1,4 @@
 pub mod Openers
 pub mod Reading
+pub mod Fits
 pub mod Texts

@@ -1,6 +1,7 @@
 // The whole text, line by line and block by block.
 ghost use Rattle.std.specs.Prelude.{◌≡◌, true, false, IfOk, codes, MatchResult, OnOk};
 ghost use Rattle.texts.specs.Lines.{rest};
+ghost use Rattle.jobs.specs.Fits.{Fits};
 ghost use Rattle.jobs.specs.Reading.{Ended, RowSaid, said, started, with_sheet};
 ghost use Rattle.jobs.specs.Texts.{Belongs, JobOf, Opened, Step, Stocked, nothing_said, state};
 ghost use Rattle.jobs.specs.declared.reader.Open.TheVariants.{Nothing};
@@ -231,7 +232,8 @@ fn plate_row(word: &str, line: &mut Line) -> Result<Row, Fault>
 
 // The job of a text in the format, or its first fault.
 pub fn read(heap: Global, format: Format, text: &str) -> Result<Job, Fault>
-    ensures { IfOk result (λ job. JobOf format text.now (said job)) }
+    ensures job { IfOk result (λ job. JobOf format text.now (said job)) }
+    ensures fits { IfOk result (λ job. Fits format (said job)) }
 {
     let mut reader = Reader::new(heap);
     for (index, line) in text.lines().enumerate() {

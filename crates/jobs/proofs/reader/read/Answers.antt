@@ -1,7 +1,9 @@
-use Rattle.std.proofs.Common.{◌+◌, sym, ap, ◌∙◌, subst}
+use Rattle.std.proofs.Common.{◌+◌, sym, ap, ◌∙◌, subst, rules}
 use Rattle.std.specs.Str.Iter.{lines_rest}
 use Rattle.texts.specs.Lines.{rest}
-use Rattle.jobs.specs.Texts.{Reading, Step, begun, step, state}
+use Rattle.jobs.specs.Reading.{said}
+use Rattle.jobs.proofs.Fits.{job_fits}
+use Rattle.jobs.specs.Texts.{JobOf, Reading, Step, begun, step, state}
 use Rattle.jobs.proofs.reader.read.Goals as goal
 
 pub loop-index-init : goal.loop-index-init
@@ -23,3 +25,8 @@ loop-index-preserved c =
     in
     subst (λ n. Reading c.args.format c.args.text.now n (lines_rest c.next.new.self.iter) (state c.take.new.self)) (sym turn.2)
     (step from.invariant turn.0.0.2 c.new.ensures.said one)
+
+pub returns-clause-fits : goal.returns-clause-fits
+returns-clause-fits c =
+    let read : JobOf c.args.format c.args.text.now (said c.close.new.self.job) = search rules in
+    job_fits c.args.format c.args.text.now (said c.close.new.self.job) read
