@@ -61,7 +61,8 @@ fn failed(rt: &HostRuntime, bench: Bench, source: &Source, cause: &Cause) -> Exi
     ExitCode::FAILURE
 }
 
-// The answers for the text of standard input: of a fault only the exit status tells.
+// The answers for the text of standard input: of a fault only the exit status tells, which has no
+// `From` for a result.
 pub fn checked(rt: &HostRuntime, format: Format, command: Command) -> ExitCode {
     match answer(rt, format, command, &Source::StandardInput) {
         Ok(()) => ExitCode::SUCCESS,

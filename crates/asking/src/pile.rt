@@ -8,6 +8,7 @@ use piles::Coil;
 use plates::{Plate, Supply};
 use supplies::{Layer, Layered, MakersList, Row};
 
+// It matches on the coil, since the two stocks are two types and no `dyn` may be handed out.
 #[derive(Clone, Copy)]
 pub struct JobPile<'a> {
     coil: Option<Coil>,

@@ -56,7 +56,8 @@ impl<'a> JobSheet<'a> {
     }
 }
 
-// The joints of all sheets, in the order of the text.
+// The joints of all sheets, in the order of the text. A loop, since the closure of a chain would make
+// a `JobSheet` of two lifetimes, of which the check has no proof yet.
 pub fn joints_of<'a>(heap: Global, job: &'a Job) -> Result<Vec<AnyJoint<'a>>, AllocError>
     ensures { IfOk result (λ v. AllDrawn job.now v.items) }
 {

@@ -11,7 +11,8 @@ use texts::{Expected, Fault, Found, Mismatch, Word};
 
 pub type Judgement = Result<Verdict, Refusal>;
 
-// In the order of the sheets. Each has to name a plate to try.
+// In the order of the sheets. Each has to name a plate to try: a loop, which ends at the first that
+// names none.
 pub fn judgements(heap: Global, job: &Job) -> Result<Vec<Judgement>, Fault>
     ensures { MatchResult result (λ v. AllJudged job.now job.now.sheets.items v.items) (Untried job.now.sheets.items) }
 {

@@ -57,7 +57,7 @@ struct Reader {
     block: Open,
     // the line that opened the block
     opened: usize,
-    // a list or a coil has come
+    // a list, which may be empty, or a coil has come
     stocked: bool,
 }
 

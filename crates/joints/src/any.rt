@@ -5,6 +5,7 @@ use super::kinds::{Kind, SheetJoint};
 use super::sheets::{HeelSheet, Lists, Sheet, SpliceSheet};
 use plates::{Plate, Refusal, Turning, Verdict};
 
+// An enum, since no `dyn` may be handed out.
 #[derive(Clone, Copy)]
 pub enum AnySheet {
     Web(Sheet),

@@ -85,7 +85,8 @@ impl<'a> Lawful<'a> {
             .map(|i| 1 + i)
     }
 
-    // The first of the member clauses that is missed, with its first member.
+    // The first of the member clauses that is missed, with its first member. `find_map` with
+    // 'passes' for none would say the early end the other way round.
     fn members_verdict(&self, trial: &Trial) -> Verdict
         requires { TrialWithin trial.now }
         ensures { result ≡ first_missed (each_of member_clauses (laid trial.now)) self.now.own.now }

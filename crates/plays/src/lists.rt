@@ -25,7 +25,7 @@ pub struct PressLine {
     pub pressed: bool,
 }
 
-// How a tacked slip ends.
+// How a tacked slip ends: the two of the five things that an answer says of a slip.
 #[derive(Clone, Copy)]
 enum End {
     Pressed,

@@ -11,6 +11,8 @@ use std::alloc::Global;
 use std::str::SplitWhitespace;
 use supplies::Few;
 
+// It is passed whole, since a fault takes its number, its heap and a word; what takes words from it says
+// that its number stays.
 #[derive(Drop)]
 pub struct Line<'a> {
     heap: Global,
@@ -24,6 +26,7 @@ impl<'a> Line<'a> {
         ensures number { result.number ≡ number }
         ensures said { Said text.now (rest result) }
     {
+        // a match, since a proof does not reach what the closure of `map_or` returns
         let said = match text.split_once('#') {
             Some((before, _)) => before,
             None => text,
@@ -48,6 +51,7 @@ impl<'a> Line<'a> {
     pub fn wrong(&self, word: &str, expected: Expected) -> Fault
         ensures { At self.now.number result }
     {
+        // a match, as in `new`
         match String::from_str(self.heap, word) {
             Ok(word) => self.fault(Found::Word(word), expected),
             Err(error) => error.into(),

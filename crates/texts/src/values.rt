@@ -22,6 +22,7 @@ pub trait Word: Value + Copy {
         ensures { result.now ≡ word self };
 }
 
+// Two lines for each kind of number, since `parse` means another thing for each.
 impl Value for u32 {
     ghost reads = { Whole };
 

@@ -1,4 +1,5 @@
-// The words of the field.
+// The words of the field: a `match` for each set of them, since a search over a table would keep the
+// same words and add a proof that none is left out.
 ghost use Rattle.texts.specs.Words.{Named, force_word, species_word, axis_word, mark_word, duration_word, service_word, area_word, turnings_word, rule_word};
 ghost use Rattle.plates.specs.Turnings.{turning_word};
 
