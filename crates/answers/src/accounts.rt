@@ -60,7 +60,8 @@ pub(crate) fn explain_all(
         println!(rt; "{HEADER}")?;
     }
     for (sheet, entry) in (1usize..).zip(job.sheets.iter()) {
-        match (JobSheet { job, entry }).explained(rt.alloc()) {
+        let asked = JobSheet { job, entry: *entry };
+        match asked.explained(rt.alloc()) {
             Ok(rows) => write_account(rt, job, sheet, rows.as_slice(), form)?,
             Err(NoAccount::Refused(refusal)) => write_last(
                 rt,

@@ -34,7 +34,8 @@ pub(crate) fn answer(
 
 fn choose_all(rt: &HostRuntime, format: Format, job: &Job) -> io::Result<()> {
     for (sheet, entry) in (1usize..).zip(job.sheets.iter()) {
-        tell(rt, format, sheet, JobSheet { job, entry }.picked())?;
+        let asked = JobSheet { job, entry: *entry };
+        tell(rt, format, sheet, asked.picked())?;
     }
     Ok(())
 }

@@ -16,13 +16,13 @@ use std::alloc::{AllocError, Global};
 #[derive(Clone, Copy)]
 pub struct JobSheet<'a> {
     pub job: &'a Job,
-    pub entry: &'a Entry,
+    pub entry: Entry,
 }
 
 impl<'a> JobSheet<'a> {
     // Its joint, over the job's members and cards.
     pub fn joint(&self) -> AnyJoint<'a>
-        ensures { Drawn self.now.job.now self.now.entry.now result }
+        ensures { Drawn self.now.job.now self.now.entry result }
     {
         AnyJoint::new(
             self.entry.sheet,
@@ -33,7 +33,7 @@ impl<'a> JobSheet<'a> {
 
     // The least plate of the job's pile that passes its joint.
     pub fn picked(&self) -> Result<Picked, Refusal>
-        ensures { Picks self.now.job.now self.now.entry.now result }
+        ensures { Picks self.now.job.now self.now.entry result }
     {
         let joint = self.joint();
         pick(&joint, &JobPile::new(self.job))
@@ -41,7 +41,7 @@ impl<'a> JobSheet<'a> {
 
     // The verdict on one plate for its joint.
     pub fn judged(&self, tried: Tried) -> Result<Verdict, Refusal>
-        ensures { Judges self.now.job.now self.now.entry.now tried result }
+        ensures { Judges self.now.job.now self.now.entry tried result }
     {
         let joint = self.joint();
         judge(&joint, tried.plate, tried.turning)
@@ -49,21 +49,22 @@ impl<'a> JobSheet<'a> {
 
     // Why each plate of the pile passes its joint or not.
     pub fn explained(&self, heap: Global) -> Result<Vec<ExplainRow>, NoAccount>
-        ensures { MatchResult result (λ v. Explains self.now.job.now self.now.entry.now v.items) (Unexplained self.now.job.now self.now.entry.now) }
+        ensures { MatchResult result (λ v. Explains self.now.job.now self.now.entry v.items) (Unexplained self.now.job.now self.now.entry) }
     {
         let joint = self.joint();
         account(heap, &joint, &JobPile::new(self.job))
     }
 }
 
-// The joints of all sheets, in the order of the text. A loop, since the closure of a chain would make
-// a `JobSheet` of two lifetimes, of which the check has no proof yet.
+// The joints of all sheets, in the order of the text. A loop, since of a chain the proof of a joint for
+// each sheet did not close.
 pub fn joints_of<'a>(heap: Global, job: &'a Job) -> Result<Vec<AnyJoint<'a>>, AllocError>
     ensures { IfOk result (λ v. AllDrawn job.now v.items) }
 {
     let mut joints = Vec::new(heap);
     for entry in job.sheets.iter() {
-        joints.push(JobSheet { job, entry }.joint())?;
+        let sheet = JobSheet { job, entry: *entry };
+        joints.push(sheet.joint())?;
     }
     Ok(joints)
 }

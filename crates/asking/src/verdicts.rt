@@ -21,7 +21,8 @@ pub fn judgements(heap: Global, job: &Job) -> Result<Vec<Judgement>, Fault>
         let Some(tried) = entry.tried else {
             return Err(untried(entry));
         };
-        all.push(JobSheet { job, entry }.judged(tried))?;
+        let sheet = JobSheet { job, entry: *entry };
+        all.push(sheet.judged(tried))?;
     }
     Ok(all)
 }
