@@ -1,5 +1,7 @@
 // Why each plate of a pile passes the joint of a sheet or not, row by row.
 ghost use Rattle.std.specs.Prelude.{◌≡◌};
+ghost use Rattle.jobs.specs.Fits.{Fits};
+ghost use Rattle.jobs.specs.Reading.{said};
 ghost use Rattle.answers.specs.Tallies.{ends, tally};
 
 use super::failures::Cause;
@@ -55,7 +57,9 @@ pub(crate) fn explain_all(
     format: Format,
     job: &Job,
     form: Form,
-) -> Result<(), Cause> {
+) -> Result<(), Cause>
+    requires { Fits format (said job.now) }
+{
     if let Form::Csv = form {
         println!(rt; "{HEADER}")?;
     }

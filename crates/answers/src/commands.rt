@@ -1,4 +1,7 @@
-// The commands of a bench, each over a whole text.
+// The commands of a bench, each over a whole text: what is asked of a job has the format of the bench.
+ghost use Rattle.jobs.specs.Fits.{Fits};
+ghost use Rattle.jobs.specs.Reading.{said};
+
 use super::accounts::{Form, explain_all};
 use super::failures::{Cause, Source, text_of};
 use super::wording::Refused;
@@ -16,7 +19,7 @@ pub enum Command {
 }
 
 // Reads the text and writes an answer for each of its sheets, or none where the text is at fault.
-pub(crate) fn answer(
+pub fn answer(
     rt: &HostRuntime,
     format: Format,
     command: Command,
@@ -32,7 +35,9 @@ pub(crate) fn answer(
     Ok(())
 }
 
-fn choose_all(rt: &HostRuntime, format: Format, job: &Job) -> io::Result<()> {
+fn choose_all(rt: &HostRuntime, format: Format, job: &Job) -> io::Result<()>
+    requires { Fits format (said job.now) }
+{
     for (sheet, entry) in (1usize..).zip(job.sheets.iter()) {
         let asked = JobSheet { job, entry: *entry };
         tell(rt, format, sheet, asked.picked())?;
@@ -41,7 +46,9 @@ fn choose_all(rt: &HostRuntime, format: Format, job: &Job) -> io::Result<()> {
 }
 
 // Nothing is written where a sheet names no plate.
-fn judge_all(rt: &HostRuntime, format: Format, job: &Job) -> Result<(), Cause> {
+fn judge_all(rt: &HostRuntime, format: Format, job: &Job) -> Result<(), Cause>
+    requires { Fits format (said job.now) }
+{
     let all = judgements(rt.alloc(), job).map_err(Cause::Text)?;
     for (sheet, judgement) in (1usize..).zip(all) {
         tell(rt, format, sheet, judgement)?;

@@ -9,6 +9,6 @@ mod wording;
 
 pub use accounts::Form;
 pub use benches::{Bench, answered, checked};
-pub use commands::Command;
+pub use commands::{Command, answer};
 pub use failures::{Cause, Source, Told, text_of};
 pub use wording::Refused;

@@ -1,3 +1,4 @@
 mod Accounting
 mod Judging
 mod Stocks
+mod Webs

@@ -3,3 +3,4 @@ pub mod Picks
 pub mod Piles
 pub mod Sheets
 pub mod Verdicts
+pub mod Webs

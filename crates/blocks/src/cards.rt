@@ -4,7 +4,7 @@ ghost use Rattle.blocks.specs.Cards.{card_key_word, card_has, CardKept, CardTake
 ghost use Rattle.texts.specs.Words.{Named};
 
 use rules::{Card, Lateral};
-use texts::{Draft, Expected, Fault, Line, Value, Word};
+use texts::{Draft, Expected, Fault, Finish, Line, Value, Word};
 
 #[derive(Clone, Copy)]
 pub enum CardKey {
@@ -65,15 +65,11 @@ impl Word for CardKey {
 impl Draft for CardDraft {
     type Key = CardKey;
 
-    type Whole = Card;
-
     ghost has = { card_has };
 
     ghost kept = { CardKept };
 
     ghost takes = { CardTakes };
-
-    ghost whole = { card_of };
 
     fn has(&self, key: CardKey) -> bool {
         match key {
@@ -95,6 +91,12 @@ impl Draft for CardDraft {
         }
         Ok(())
     }
+}
+
+impl Finish for CardDraft {
+    type Whole = Card;
+
+    ghost whole = { card_of };
 
     // The card, or the first key that it lacks.
     fn finish(self) -> Result<Card, CardKey> {

@@ -6,7 +6,7 @@ ghost use Rattle.texts.specs.Words.{Named};
 use super::sheets::{SheetDraft, SheetKey};
 use joints::HeelSheet;
 use rules::FactorRule;
-use texts::{Draft, Expected, Fault, Line, Value, Word};
+use texts::{Draft, Expected, Fault, Finish, Line, Value, Word};
 
 #[derive(Clone, Copy)]
 pub enum HeelKey {
@@ -59,15 +59,11 @@ impl Word for HeelKey {
 impl Draft for HeelDraft {
     type Key = HeelKey;
 
-    type Whole = HeelSheet;
-
     ghost has = { heel_has };
 
     ghost kept = { HeelKept };
 
     ghost takes = { HeelTakes };
-
-    ghost whole = { heel_of };
 
     fn has(&self, key: HeelKey) -> bool {
         match key {
@@ -85,6 +81,12 @@ impl Draft for HeelDraft {
         }
         Ok(())
     }
+}
+
+impl Finish for HeelDraft {
+    type Whole = HeelSheet;
+
+    ghost whole = { heel_of };
 
     // The sheet, or the first key that it lacks. It may lack a rule, and a plate to try.
     fn finish(self) -> Result<HeelSheet, HeelKey> {

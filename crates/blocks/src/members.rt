@@ -5,7 +5,7 @@ ghost use Rattle.texts.specs.Lines.{rest};
 ghost use Rattle.texts.specs.Words.{Named};
 
 use rules::{Axis, Field, Force, Mark, Member, Span, Species};
-use texts::{Draft, Expected, Fault, Line, Value, Word};
+use texts::{Draft, Expected, Fault, Finish, Line, Value, Word};
 
 #[derive(Clone, Copy)]
 pub enum MemberKey {
@@ -110,15 +110,11 @@ impl Word for MemberKey {
 impl Draft for MemberDraft {
     type Key = MemberKey;
 
-    type Whole = Member;
-
     ghost has = { member_has };
 
     ghost kept = { MemberKept };
 
     ghost takes = { MemberTakes };
-
-    ghost whole = { member_of };
 
     fn has(&self, key: MemberKey) -> bool {
         match key {
@@ -158,6 +154,12 @@ impl Draft for MemberDraft {
         }
         Ok(())
     }
+}
+
+impl Finish for MemberDraft {
+    type Whole = Member;
+
+    ghost whole = { member_of };
 
     // The member, or the first key that it lacks.
     fn finish(self) -> Result<Member, MemberKey> {

@@ -7,7 +7,7 @@ ghost use Rattle.texts.specs.Words.{Named};
 use joints::Sheet;
 use plates::{Plate, Turning};
 use rules::{Area, Conditions, Duration, Service, Turnings};
-use texts::{Draft, Expected, Fault, Found, Line, Value, Word};
+use texts::{Draft, Expected, Fault, Finish, Found, Line, Value, Word};
 
 #[derive(Clone, Copy)]
 pub enum SheetKey {
@@ -83,15 +83,11 @@ impl Word for SheetKey {
 impl Draft for SheetDraft {
     type Key = SheetKey;
 
-    type Whole = Sheet;
-
     ghost has = { sheet_has };
 
     ghost kept = { SheetKept };
 
     ghost takes = { SheetTakes };
-
-    ghost whole = { sheet_of };
 
     fn has(&self, key: SheetKey) -> bool {
         match key {
@@ -117,6 +113,12 @@ impl Draft for SheetDraft {
         }
         Ok(())
     }
+}
+
+impl Finish for SheetDraft {
+    type Whole = Sheet;
+
+    ghost whole = { sheet_of };
 
     // The sheet, or the first key that it lacks. It may lack a plate to try.
     fn finish(self) -> Result<Sheet, SheetKey> {

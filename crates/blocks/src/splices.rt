@@ -5,7 +5,7 @@ ghost use Rattle.texts.specs.Words.{Named};
 
 use super::sheets::{SheetDraft, SheetKey};
 use joints::SpliceSheet;
-use texts::{Draft, Expected, Fault, Line, Value, Word};
+use texts::{Draft, Expected, Fault, Finish, Line, Value, Word};
 
 #[derive(Clone, Copy)]
 pub enum SpliceKey {
@@ -57,15 +57,11 @@ impl Word for SpliceKey {
 impl Draft for SpliceDraft {
     type Key = SpliceKey;
 
-    type Whole = SpliceSheet;
-
     ghost has = { splice_has };
 
     ghost kept = { SpliceKept };
 
     ghost takes = { SpliceTakes };
-
-    ghost whole = { splice_of };
 
     fn has(&self, key: SpliceKey) -> bool {
         match key {
@@ -83,6 +79,12 @@ impl Draft for SpliceDraft {
         }
         Ok(())
     }
+}
+
+impl Finish for SpliceDraft {
+    type Whole = SpliceSheet;
+
+    ghost whole = { splice_of };
 
     // The sheet, or the first key that it lacks. It may lack a plate to try.
     fn finish(self) -> Result<SpliceSheet, SpliceKey> {

@@ -1,5 +1,7 @@
 // The whole text, line by line and block by block.
 ghost use Rattle.std.specs.Prelude.{◌≡◌, true, false, IfOk, codes, MatchResult, OnOk};
+ghost use Rattle.std.specs.Result.{IfErr};
+ghost use Rattle.texts.specs.Faults.{At};
 ghost use Rattle.texts.specs.Lines.{rest};
 ghost use Rattle.jobs.specs.Fits.{Fits};
 ghost use Rattle.jobs.specs.Reading.{Ended, RowSaid, said, started, with_sheet};
@@ -15,13 +17,14 @@ use std::alloc::Global;
 use supplies::{Layer, Row};
 use texts::{Expected, Fault, Found, Line, Value, Word, whole, with_line};
 
-// A sheet of the text: the line that opens it, its block, what it says, and the plate to try.
+// A sheet of the text: the line that opens it, what it says, the plate to try, and its block. In this
+// order it takes the least memory.
 #[derive(Clone, Copy)]
 pub struct Entry {
     pub line: usize,
-    pub block: Block,
     pub sheet: AnySheet,
     pub tried: Option<Tried>,
+    pub block: Block,
 }
 
 // What the text says, each list in the order of the text. The plates are those of the coil, or
@@ -168,6 +171,7 @@ impl Reader {
         ensures block { OnOk result (self.new.block ≡ Nothing) }
         ensures stocked { self.new.stocked ≡ self.old.stocked }
         ensures job { OnOk result (Ended self.old.block self.old.opened (said self.old.job) (said self.new.job)) }
+        ensures lacks { IfErr result (At self.old.opened) }
     {
         let opened = self.opened;
         match self.block {
@@ -199,6 +203,7 @@ impl Reader {
     fn enter(&mut self, block: Block, sheet: AnySheet, tried: Option<Tried>) -> Result<(), Fault>
         ensures stocked { self.new.stocked ≡ self.old.stocked }
         ensures job { OnOk result (said self.new.job ≡ with_sheet (said self.old.job) (record { line = self.old.opened; block = block; sheet = sheet; tried = tried })) }
+        ensures short { IfErr result (At self.old.opened) }
     {
         self.job.sheets.push(Entry {
             line: self.opened,

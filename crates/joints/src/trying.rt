@@ -100,6 +100,7 @@ impl<'a> Lawful<'a> {
     }
 
     // The verdict of the clauses A to I on one plate in one turning.
+    #[inline(always)]
     pub fn tried(
         &self,
         conditions: &Conditions,

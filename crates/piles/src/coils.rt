@@ -4,7 +4,7 @@ ghost use Rattle.piles.specs.Coils.{coil_key_word, coil_has, CoilKept, CoilTakes
 ghost use Rattle.texts.specs.Words.{Named};
 
 use supplies::{CoilCutter, Few, MAX_WIDTHS};
-use texts::{Draft, Expected, Fault, Line, Value, Word};
+use texts::{Draft, Expected, Fault, Finish, Line, Value, Word};
 
 #[derive(Clone, Copy)]
 pub enum CoilKey {
@@ -74,15 +74,11 @@ impl Word for CoilKey {
 impl Draft for CoilDraft {
     type Key = CoilKey;
 
-    type Whole = Coil;
-
     ghost has = { coil_has };
 
     ghost kept = { CoilKept };
 
     ghost takes = { CoilTakes };
-
-    ghost whole = { coil_of };
 
     fn has(&self, key: CoilKey) -> bool {
         match key {
@@ -104,6 +100,12 @@ impl Draft for CoilDraft {
         }
         Ok(())
     }
+}
+
+impl Finish for CoilDraft {
+    type Whole = Coil;
+
+    ghost whole = { coil_of };
 
     // The coil, or the first key that it lacks.
     fn finish(self) -> Result<Coil, CoilKey> {

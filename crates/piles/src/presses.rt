@@ -4,7 +4,7 @@ ghost use Rattle.piles.specs.Presses.{press_key_word, press_has, PressKept, Pres
 ghost use Rattle.texts.specs.Words.{Named};
 
 use supplies::Layer;
-use texts::{Draft, Expected, Fault, Line, Value, Word};
+use texts::{Draft, Expected, Fault, Finish, Line, Value, Word};
 
 #[derive(Clone, Copy)]
 pub enum PressKey {
@@ -52,15 +52,11 @@ impl Word for PressKey {
 impl Draft for PressDraft {
     type Key = PressKey;
 
-    type Whole = Layer;
-
     ghost has = { press_has };
 
     ghost kept = { PressKept };
 
     ghost takes = { PressTakes };
-
-    ghost whole = { press_of };
 
     fn has(&self, key: PressKey) -> bool {
         match key {
@@ -76,6 +72,12 @@ impl Draft for PressDraft {
         }
         Ok(())
     }
+}
+
+impl Finish for PressDraft {
+    type Whole = Layer;
+
+    ghost whole = { press_of };
 
     // The press limit, or the first key that it lacks.
     fn finish(self) -> Result<Layer, PressKey> {

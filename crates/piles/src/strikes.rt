@@ -4,7 +4,7 @@ ghost use Rattle.piles.specs.Strikes.{strike_key_word, strike_has, StrikeKept, S
 ghost use Rattle.texts.specs.Words.{Named};
 
 use supplies::{Few, Layer, MAX_STRUCK};
-use texts::{Draft, Expected, Fault, Line, Value, Word};
+use texts::{Draft, Expected, Fault, Finish, Line, Value, Word};
 
 #[derive(Clone, Copy)]
 pub enum StrikeKey {
@@ -48,15 +48,11 @@ impl Word for StrikeKey {
 impl Draft for StrikeDraft {
     type Key = StrikeKey;
 
-    type Whole = Layer;
-
     ghost has = { strike_has };
 
     ghost kept = { StrikeKept };
 
     ghost takes = { StrikeTakes };
-
-    ghost whole = { strike_of };
 
     fn has(&self, key: StrikeKey) -> bool {
         match key {
@@ -70,6 +66,12 @@ impl Draft for StrikeDraft {
         }
         Ok(())
     }
+}
+
+impl Finish for StrikeDraft {
+    type Whole = Layer;
+
+    ghost whole = { strike_of };
 
     // The strike list, or the key that it lacks.
     fn finish(self) -> Result<Layer, StrikeKey> {

@@ -1,7 +1,7 @@
 // A supply covered by a layer, which hides some of its plates: the places keep their numbers.
-ghost use Rattle.std.specs.Prelude.{◌≡◌, ℕ, Bool};
+ghost use Rattle.std.specs.Prelude.{◌≡◌, ℕ, Bool, option_map};
 ghost use Rattle.plates.specs.Size.{Size, size};
-ghost use Rattle.supplies.specs.Hiding.{unhidden};
+ghost use Rattle.supplies.specs.Hiding.{unhidden, unless};
 
 use plates::{Plate, Supply};
 
@@ -12,6 +12,16 @@ pub trait Hide {
     // The layer hides this plate at this place.
     fn hides(&self, place: u32, plate: Plate) -> bool
         ensures { result ≡ hides self.now place (size plate) };
+
+    // What the supply shows at the place through the layer. One that knows without the plate need not
+    // ask for it.
+    fn through<S: Supply>(&self, supply: &S, place: u32) -> Option<Plate>
+        ensures { option_map size result ≡ unless (hides self.now place) (S.shows supply.now place) }
+    {
+        supply
+            .plate(place)
+            .filter(|plate| !self.hides(place, *plate))
+    }
 }
 
 #[derive(Drop)]
@@ -30,8 +40,6 @@ impl<S: Supply, L: Hide> Supply for Covered<S, L> {
     }
 
     fn plate(&self, place: u32) -> Option<Plate> {
-        self.supply
-            .plate(place)
-            .filter(|plate| !self.layer.hides(place, *plate))
+        self.layer.through(&self.supply, place)
     }
 }

@@ -21,6 +21,13 @@ impl<const N: usize> Few<N> {
         Few { values, count }
     }
 
+    // The whole array, which may hold anything past the first so many.
+    pub fn values(&self) -> [u32; N]
+        ensures { take (length (few self.now)) result ≡ few self.now }
+    {
+        self.values
+    }
+
     pub fn as_slice(&self) -> &[u32]
         ensures few { result.now ≡ few self.now }
         ensures within { length (few self.now) ≤ N }

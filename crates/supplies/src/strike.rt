@@ -1,9 +1,9 @@
 // A strike list: a supply some places of which are struck, and show nothing.
-ghost use Rattle.std.specs.Prelude.{◌≡◌};
-ghost use Rattle.supplies.specs.Strikes.{strike_hides, StrikeLaws};
+ghost use Rattle.std.specs.Prelude.{◌≡◌, take};
+ghost use Rattle.supplies.specs.Strikes.{listed, strike_hides, StrikeLaws};
 
 use super::covered::{Covered, Hide};
-use plates::Plate;
+use plates::{Plate, Supply};
 
 // The places struck beyond these are not read.
 pub const MAX_STRUCK: usize = 32;
@@ -12,6 +12,16 @@ pub const MAX_STRUCK: usize = 32;
 pub struct Strikes<'a>(pub(crate) &'a [u32]);
 
 pub type StrikeList<'a, S> = Covered<S, Strikes<'a>>;
+
+impl Strikes<'_> {
+    // The place is among the first 32.
+    fn strikes(&self, place: u32) -> bool
+        ensures { result ≡ listed (take 32 self.now.0.now) place }
+    {
+        let read = MAX_STRUCK.min(self.0.len());
+        self.0[..read].contains(&place)
+    }
+}
 
 impl<'a, S> StrikeList<'a, S> {
     // The supply less the places struck: the others keep their numbers.
@@ -31,9 +41,14 @@ impl Hide for Strikes<'_> {
     ghost hides = { λ p. strike_hides p.0.now };
 
     fn hides(&self, place: u32, _plate: Plate) -> bool {
-        self.0
-            .iter()
-            .take(MAX_STRUCK)
-            .any(|struck| *struck == place)
+        self.strikes(place)
+    }
+
+    // A struck place shows nothing, so that what lies below is not asked.
+    fn through<S: Supply>(&self, supply: &S, place: u32) -> Option<Plate> {
+        if self.strikes(place) {
+            return None;
+        }
+        supply.plate(place)
     }
 }

@@ -8,20 +8,15 @@ use super::line::Line;
 use super::values::Word;
 
 // What the lines of a block have said so far, by key: `has` says which keys have come, `kept` that every
-// key but one is as it was, `takes` that the value of a key is what the next words of its line say, and
-// `whole` what all of them give, or the first key that is lacking.
-pub trait Draft: Copy + Default {
+// key but one is as it was, and `takes` that the value of a key is what the next words of its line say.
+pub trait Draft: Copy {
     type Key: Word;
-
-    type Whole;
 
     ghost has: { Self.Key → Self → Bool };
 
     ghost kept: { Self.Key → Self → Self → Type 0 };
 
     ghost takes: { Self.Key → List ℕ → Self → List ℕ → Type 0 };
-
-    ghost whole: { Self → Result Self.Whole Self.Key };
 
     fn has(&self, key: Self::Key) -> bool
         ensures { result ≡ has key self.now };
@@ -30,6 +25,13 @@ pub trait Draft: Copy + Default {
     fn set(&mut self, key: Self::Key, line: &mut Line) -> Result<(), Fault>
         ensures kept { kept key self.old self.new }
         ensures cases { MatchResult result (λ _. (has key self.new ≡ true) × takes key (rest line.old) self.new (rest line.new)) (λ _. self.new ≡ self.old) };
+}
+
+// A draft that gives a whole: `whole` is what all of its keys give, or the first key that is lacking.
+pub trait Finish: Draft {
+    type Whole;
+
+    ghost whole: { Self → Result Self.Whole Self.Key };
 
     fn finish(self) -> Result<Self::Whole, Self::Key>
         ensures { result ≡ whole self };
@@ -49,7 +51,7 @@ pub fn with_line<D: Draft>(draft: D, word: &str, line: &mut Line) -> Result<D, F
 }
 
 // What a draft gives as a whole. A key that it lacks is a fault of the line that opened its block.
-pub fn whole<D: Draft, B: Word>(draft: D, block: B, opened: usize) -> Result<D::Whole, Fault>
+pub fn whole<D: Finish, B: Word>(draft: D, block: B, opened: usize) -> Result<D::Whole, Fault>
     ensures { MatchResult result (λ x. D.whole draft ≡ Ok x) (λ f. at_line f ≡ opened) }
 {
     draft.finish().map_err(|key| Fault::Format {

@@ -7,7 +7,7 @@ pub mod line;
 pub mod values;
 pub mod words;
 
-pub use drafts::{Draft, whole, with_line};
+pub use drafts::{Draft, Finish, whole, with_line};
 pub use faults::{Expected, Fault, Found, Mismatch};
 pub use line::Line;
 pub use values::{Value, Word};

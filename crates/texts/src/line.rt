@@ -83,6 +83,7 @@ impl<'a> Line<'a> {
     }
 
     // The value of a word of this line.
+    #[inline(always)]
     pub fn meant<T: Value>(&self, word: &str) -> Result<T, Fault>
         ensures { MatchResult result (λ v. T.Value.reads word.now (Some v)) (λ f. At self.now.number f) }
     {

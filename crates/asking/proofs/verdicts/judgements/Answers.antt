@@ -12,7 +12,7 @@ loop-entry-init c = subst (AllJudged c.args.job.now (take 0 (vec_items c.args.jo
 
 pub loop-entry-preserved : goal.loop-entry-preserved
 loop-entry-preserved c =
-    each_more (Asked c.args.job.now) (vec_items c.args.job.now.sheets) c.deref-entry-items.result.now c.loop-entry.entry-index c.entry-item.result (vec_items c.loop-entry.all) (vec_items c.push.new.self) c.deref-entry-items.ensures.value c.loop-entry-test.true c.entry-item.is c.loop-entry.invariant (c.in-Some.tried, c.in-Some.is, c.judged.ensures) c.in_ok-push.ensures.items
+    each_more (Asked c.args.job.now) (vec_items c.args.job.now.sheets) c.deref-entry-items.result.now c.loop-entry.entry-index c.entry-item.result (vec_items c.loop-entry.all) (vec_items c.push.new.self) c.deref-entry-items.ensures.value c.loop-entry-test.true c.entry-item.is c.loop-entry.invariant (c.in-Some.tried, c.in-Some.is, c.judged.ensures.judges) c.in_ok-push.ensures.items
 
 pub returns : goal.returns
 returns c =
