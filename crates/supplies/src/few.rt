@@ -1,11 +1,11 @@
 // A few numbers: as many as there are, and `N` at most.
 ghost use Rattle.std.specs.Prelude.{◌≡◌, ◌≤◌, min, length, take};
 
-// The first `count` of the values.
+// The first `count` of the values, which stands beside the first of them.
 #[derive(Clone, Copy)]
 pub struct Few<const N: usize> {
-    values: [u32; N],
     count: usize,
+    values: [u32; N],
     ghost within: { count ≤ N },
 }
 

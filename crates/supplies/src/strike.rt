@@ -8,16 +8,23 @@ use plates::{Plate, Supply};
 // The places struck beyond these are not read.
 pub const MAX_STRUCK: usize = 32;
 
+// So many are asked in turn.
+const IN_TURN: usize = 4;
+
 #[derive(Clone, Copy)]
 pub struct Strikes<'a>(pub(crate) &'a [u32]);
 
 pub type StrikeList<'a, S> = Covered<S, Strikes<'a>>;
 
 impl Strikes<'_> {
-    // The place is among the first 32.
+    // The place is among the first 32: of a few each is asked in turn, of more `contains` asks several at
+    // once, which for a few costs more than it saves.
     fn strikes(&self, place: u32) -> bool
         ensures { result ≡ listed (take 32 self.now.0.now) place }
     {
+        if self.0.len() <= IN_TURN {
+            return self.0.iter().any(|struck| *struck == place);
+        }
         let read = MAX_STRUCK.min(self.0.len());
         self.0[..read].contains(&place)
     }
