@@ -1,5 +1,6 @@
 // A supply covered by a layer, which hides some of its plates: the places keep their numbers.
 ghost use Rattle.std.specs.Prelude.{◌≡◌, ℕ, Bool, option_map};
+ghost use Rattle.std.specs.Option.{IfSome};
 ghost use Rattle.plates.specs.Size.{Size, size};
 ghost use Rattle.supplies.specs.Hiding.{unhidden, unless};
 
@@ -13,14 +14,32 @@ pub trait Hide {
     fn hides(&self, place: u32, plate: Plate) -> bool
         ensures { result ≡ hides self.now place (size plate) };
 
-    // What the supply shows at the place through the layer. One that knows without the plate need not
-    // ask for it.
-    fn through<S: Supply>(&self, supply: &S, place: u32) -> Option<Plate>
-        ensures { option_map size result ≡ unless (hides self.now place) (S.shows supply.now place) }
+    // Whether it hides what stands at the place, where it knows that without the plate.
+    fn known(&self, _place: u32) -> Option<bool>
+        ensures { IfSome result (λ hidden. (s : Size) → hides self.now _place s ≡ hidden) }
     {
-        supply
-            .plate(place)
-            .filter(|plate| !self.hides(place, *plate))
+        None
+    }
+}
+
+// What is seen through a layer. It stands beside `Hide`, so that a layer may hold a function or be lent as
+// one of any type.
+pub trait Through: Hide {
+    // What the supply shows at the place through the layer. Where the layer knows that it hides the place,
+    // the supply is not asked.
+    fn through<S: Supply>(&self, supply: &S, place: u32) -> Option<Plate>
+        ensures { option_map size result ≡ unless (Self.hides self.now place) (S.shows supply.now place) };
+}
+
+impl<L: Hide> Through for L {
+    fn through<S: Supply>(&self, supply: &S, place: u32) -> Option<Plate> {
+        match self.known(place) {
+            Some(true) => None,
+            Some(false) => supply.plate(place),
+            None => supply
+                .plate(place)
+                .filter(|plate| !self.hides(place, *plate)),
+        }
     }
 }
 

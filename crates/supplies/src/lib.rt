@@ -10,7 +10,7 @@ pub mod list;
 pub mod strike;
 
 pub use coil::{CoilCutter, MAX_WIDTHS};
-pub use covered::{Covered, Hide};
+pub use covered::{Covered, Hide, Through};
 pub use few::Few;
 pub use layered::{Layer, Layered};
 pub use limit::PressLimit;

@@ -3,7 +3,7 @@ ghost use Rattle.std.specs.Prelude.{◌≡◌, take};
 ghost use Rattle.supplies.specs.Strikes.{listed, strike_hides, StrikeLaws};
 
 use super::covered::{Covered, Hide};
-use plates::{Plate, Supply};
+use plates::Plate;
 
 // The places struck beyond these are not read.
 pub const MAX_STRUCK: usize = 32;
@@ -51,11 +51,8 @@ impl Hide for Strikes<'_> {
         self.strikes(place)
     }
 
-    // A struck place shows nothing, so that what lies below is not asked.
-    fn through<S: Supply>(&self, supply: &S, place: u32) -> Option<Plate> {
-        if self.strikes(place) {
-            return None;
-        }
-        supply.plate(place)
+    // A place is struck whatever plate stands there, so that what lies below a struck one is not asked.
+    fn known(&self, place: u32) -> Option<bool> {
+        Some(self.strikes(place))
     }
 }

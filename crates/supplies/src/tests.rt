@@ -1,6 +1,9 @@
 // The supplies on examples: the place count, and width and length at some places.
-use super::{CoilCutter, Few, Layer, Layered, MakersList, PressLimit, Row, StrikeList};
-use plates::Supply;
+use super::{
+    CoilCutter, Covered, Few, Hide, Layer, Layered, MakersList, PressLimit, Row, StrikeList,
+    Through,
+};
+use plates::{Plate, Supply};
 use std::process::Abort;
 
 // A place, with the width and the length that it shows.
@@ -158,4 +161,70 @@ fn layers_of_a_list_stack(rt: HostRuntime) {
     let both = [press, Layer::Strike(Few::new(places, 40))];
     let second = [(0, None), (1, Some((120, 150))), (2, None)];
     expect(&rt, &Layered::new(list, &both), 3, &second);
+}
+
+// A layer of the caller's, which hides all or nothing and holds a function.
+#[derive(Clone, Copy)]
+struct Shutter {
+    shut: bool,
+    turned: fn(bool) -> bool,
+}
+
+impl Hide for Shutter {
+    ghost hides = { λ s k p. s.shut };
+
+    fn hides(&self, _place: u32, _plate: Plate) -> bool {
+        self.shut
+    }
+}
+
+fn not(shut: bool) -> bool {
+    !shut
+}
+
+// What is seen through the layer of the rows.
+fn expect_seen<L: Hide>(rt: &impl Abort, layer: &L, table: &[Shown]) {
+    let list = MakersList::new(&ROWS);
+    for (place, shown) in table {
+        let plate = layer.through(&list, *place);
+        assert_eq!(rt; plate.map(|plate| (plate.width(), plate.length())), *shown);
+    }
+}
+
+// The layer hides the plate of a row.
+fn hidden(layer: &dyn Hide, place: u32) -> bool {
+    let plate = MakersList::new(&ROWS).plate(place);
+    plate.is_some_and(|plate| layer.hides(place, plate))
+}
+
+#[test]
+fn layers_of_a_caller_hide(rt: HostRuntime) {
+    let turned: fn(bool) -> bool = not;
+    let open = Shutter {
+        shut: false,
+        turned,
+    };
+    expect_seen(&rt, &open, &[(0, Some((100, 200))), (2, None)]);
+    let shut = Shutter { shut: true, turned };
+    expect_seen(&rt, &shut, &[(0, None), (2, None)]);
+    let covered = Covered {
+        supply: MakersList::new(&ROWS),
+        layer: shut,
+    };
+    expect(&rt, &covered, 3, &[(0, None)]);
+}
+
+#[test]
+fn layers_are_lent_as_one_of_any_type(rt: HostRuntime) {
+    let press = Layer::Press {
+        width: 119,
+        length: 200,
+    };
+    expect_seen(&rt, &press, &[(0, Some((100, 200))), (1, None)]);
+    assert!(rt; !hidden(&press, 0));
+    assert!(rt; hidden(&press, 1));
+    let strike = Layer::Strike(Few::new([0; 32], 1));
+    expect_seen(&rt, &strike, &[(0, None), (1, Some((120, 150)))]);
+    assert!(rt; hidden(&strike, 0));
+    assert!(rt; !hidden(&strike, 1));
 }
