@@ -14,26 +14,26 @@ pub trait Hide {
     fn hides(&self, place: u32, plate: Plate) -> bool
         ensures { result ≡ hides self.now place (size plate) };
 
-    // Whether it hides what stands at the place, where it knows that without the plate.
-    fn known(&self, _place: u32) -> Option<bool>
-        ensures { IfSome result (λ hidden. (s : Size) → hides self.now _place s ≡ hidden) }
+    // Whether the layer hides the place whatever plate stands there, or nothing where that takes the plate.
+    fn hides_place(&self, place: u32) -> Option<bool>
+        ensures { IfSome result (λ hidden. (s : Size) → hides self.now place s ≡ hidden) }
     {
         None
     }
 }
 
-// What is seen through a layer. It stands beside `Hide`, so that a layer may hold a function or be lent as
-// one of any type.
+// What is seen through a layer. The method has a type parameter: in `Hide` it would keep a layer from being
+// lent as `&dyn Hide`, and one that holds a function from being proved.
 pub trait Through: Hide {
-    // What the supply shows at the place through the layer. Where the layer knows that it hides the place,
-    // the supply is not asked.
+    // What the supply shows at the place through the layer. Where the layer hides the place, the supply is
+    // not asked.
     fn through<S: Supply>(&self, supply: &S, place: u32) -> Option<Plate>
         ensures { option_map size result ≡ unless (Self.hides self.now place) (S.shows supply.now place) };
 }
 
 impl<L: Hide> Through for L {
     fn through<S: Supply>(&self, supply: &S, place: u32) -> Option<Plate> {
-        match self.known(place) {
+        match self.hides_place(place) {
             Some(true) => None,
             Some(false) => supply.plate(place),
             None => supply

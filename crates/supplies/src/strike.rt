@@ -51,8 +51,8 @@ impl Hide for Strikes<'_> {
         self.strikes(place)
     }
 
-    // A place is struck whatever plate stands there, so that what lies below a struck one is not asked.
-    fn known(&self, place: u32) -> Option<bool> {
+    // A place is struck whatever plate stands there, so that the supply is not asked for a struck one.
+    fn hides_place(&self, place: u32) -> Option<bool> {
         Some(self.strikes(place))
     }
 }

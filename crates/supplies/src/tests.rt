@@ -1,9 +1,11 @@
 // The supplies on examples: the place count, and width and length at some places.
+use super::strike::Strikes;
 use super::{
     CoilCutter, Covered, Few, Hide, Layer, Layered, MakersList, PressLimit, Row, StrikeList,
     Through,
 };
 use plates::{Plate, Supply};
+use std::cell::Cell;
 use std::process::Abort;
 
 // A place, with the width and the length that it shows.
@@ -212,6 +214,41 @@ fn layers_of_a_caller_hide(rt: HostRuntime) {
         layer: shut,
     };
     expect(&rt, &covered, 3, &[(0, None)]);
+}
+
+// A supply, and how often it was asked for a plate.
+#[derive(Drop)]
+struct Counted<S> {
+    supply: S,
+    asked: Cell<u32>,
+}
+
+impl<S: Supply> Supply for Counted<S> {
+    ghost places = { λ c. S.places c.supply };
+
+    ghost shows = { λ c. S.shows c.supply };
+
+    fn places(&self) -> u32 {
+        self.supply.places()
+    }
+
+    fn plate(&self, place: u32) -> Option<Plate> {
+        self.asked.set(self.asked.get().saturating_add(1));
+        self.supply.plate(place)
+    }
+}
+
+#[test]
+fn a_struck_place_is_not_asked_for(rt: HostRuntime) {
+    let below = Counted {
+        supply: MakersList::new(&ROWS),
+        asked: Cell::new(0),
+    };
+    let strike = Strikes(&[0]);
+    assert!(rt; strike.through(&below, 0).is_none());
+    assert_eq!(rt; below.asked.get(), 0);
+    assert!(rt; strike.through(&below, 1).is_some());
+    assert_eq!(rt; below.asked.get(), 1);
 }
 
 #[test]
