@@ -14,7 +14,7 @@ pub trait Hide {
     fn hides(&self, place: u32, plate: Plate) -> bool
         ensures { result ≡ hides self.now place (size plate) };
 
-    // Whether the layer hides the place whatever plate stands there, or nothing where that takes the plate.
+    // Whether the layer hides whatever plate stands at the place, or hides none there. It may leave that open.
     fn hides_place(&self, place: u32) -> Option<bool>
         ensures { IfSome result (λ hidden. (s : Size) → hides self.now place s ≡ hidden) }
     {
@@ -23,10 +23,10 @@ pub trait Hide {
 }
 
 // What is seen through a layer. The method has a type parameter: in `Hide` it would keep a layer from being
-// lent as `&dyn Hide`, and one that holds a function from being proved.
+// lent as `&dyn Hide`, and a layer that holds a function would have to write it.
 pub trait Through: Hide {
-    // What the supply shows at the place through the layer. Where the layer hides the place, the supply is
-    // not asked.
+    // What the supply shows at the place through the layer. Where the layer says that it hides the place,
+    // the supply is not asked.
     fn through<S: Supply>(&self, supply: &S, place: u32) -> Option<Plate>
         ensures { option_map size result ≡ unless (Self.hides self.now place) (S.shows supply.now place) };
 }
